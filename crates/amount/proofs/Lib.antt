@@ -1,0 +1,4 @@
+mod Dots
+mod Filled
+mod Places
+mod Ranges

@@ -1,0 +1,14 @@
+-- What of an amount counts while only some slots are set. Assumes nothing: these are definitions.
+use mathlib.Core.Bool.{Bool, cond}
+use mathlib.Core.List.{List, [], _∷_}
+use Prim.Native.Nat.{ℕ}
+use Rattle.amount.specs.Amount.{Amount}
+
+-- as many entries as there are slots, 0 where the slot is not set
+unfoldable pub mask : List Bool → List ℕ → List ℕ
+mask [] cs = []
+mask (b ∷ bs) [] = 0 ∷ mask bs []
+mask (b ∷ bs) (c ∷ cs) = cond b c 0 ∷ mask bs cs
+
+abbrev pub known : List Bool → Amount → Amount
+known set a = record { base = a .base; per = mask set (a .per) }

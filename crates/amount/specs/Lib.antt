@@ -1,0 +1,4 @@
+pub mod Amount
+pub mod Corner
+pub mod Known
+pub mod Form

@@ -1,0 +1,31 @@
+// What an amount is worth, and what of it counts before all slots are set.
+ghost use mathlib.Core.Path.{_≡_};
+ghost use Rattle.amount.specs.Amount.{worth};
+ghost use Rattle.amount.specs.Known.{known};
+ghost use Rattle.amount.specs.Form.{meaning};
+
+use crate::Amount;
+
+impl Amount {
+    // The cents that the amount comes to at these slot values.
+    pub fn worth(&self, slots: &[u32; 8]) -> u64
+        ensures { λ r. ⌜ r ≡ worth (meaning (now (self .entry))) (now (slots .entry)) ⌝ }
+    {
+        let mut sum = self.base as u64;
+        for k in 0..8 {
+            sum += self.per[k] as u64 * slots[k] as u64;
+        }
+        sum
+    }
+
+    // The amount as it counts while only some slots are set: the others are 0, whatever they are set to later.
+    pub fn known(&self, set: &[bool; 8]) -> Amount
+        ensures { λ r. ⌜ meaning r ≡ known (now (set .entry)) (meaning (now (self .entry))) ⌝ }
+    {
+        let mut per = [0; 8];
+        for k in 0..8 {
+            per[k] = if set[k] { self.per[k] } else { 0 };
+        }
+        Amount { base: self.base, per }
+    }
+}
