@@ -1,4 +1,8 @@
+mod Corners
 mod Dots
 mod Filled
+mod Growing
+mod Lack
+mod Lessened
 mod Places
-mod Ranges
+pub mod Ranges

@@ -4,11 +4,12 @@ use mathlib.Core.Bool.{Bool, true, false, cond}
 use mathlib.Core.List.{List, [], _∷_}
 use Prim.Native.Nat.{ℕ, zero, suc, _<_}
 use native.Mathlib.Omega.{arith}
-use lib.IntN.{ℤ, pos}
+use lib.IntN.{ℤ, pos, negsuc}
 use lib.Signed.{ltZ}
 use lib.ListN.{length, getD}
+use Rattle.std.proofs.shelf.Signed.{ints}
 use Rattle.amount.specs.Known.{mask}
-use Rattle.amount.specs.Form.{each, lowest}
+use Rattle.amount.specs.Form.{each, lowest, low-or-high}
 
 pub length-mask : (bs : List Bool) (cs : List ℕ) → length (mask bs cs) ≡ length bs
 unfolding mask
@@ -40,6 +41,10 @@ module _ (op : ℤ → ℤ → ℤ) where
   getD-each (c ∷ cs) (e ∷ es) zero h = refl
   getD-each (c ∷ cs) (e ∷ es) (suc k) h = getD-each cs es k (omega arith)
 
+by-sign : (c : ℤ) (l h : ℕ) → low-or-high c l h ≡ cond (ltZ c (pos 0)) h l
+by-sign (pos c) l h = grind (arith, ints)
+by-sign (negsuc c) l h = refl
+
 pub length-lowest : (cs : List ℤ) (lo hi : List ℕ) → length lo ≡ length cs → length hi ≡ length cs → length (lowest cs lo hi) ≡ length cs
 unfolding lowest
 length-lowest [] lo hi p q = refl
@@ -54,5 +59,5 @@ unfolding lowest
 getD-lowest [] lo hi k p q lt = absurd (omega arith)
 getD-lowest (c ∷ cs) [] hi k p q lt = absurd (omega arith)
 getD-lowest (c ∷ cs) (l ∷ lo) [] k p q lt = absurd (omega arith)
-getD-lowest (c ∷ cs) (l ∷ lo) (h ∷ hi) zero p q lt = refl
+getD-lowest (c ∷ cs) (l ∷ lo) (h ∷ hi) zero p q lt = by-sign c l h
 getD-lowest (c ∷ cs) (l ∷ lo) (h ∷ hi) (suc k) p q lt = getD-lowest cs lo hi k (omega arith) (omega arith) (omega arith)

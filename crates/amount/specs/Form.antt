@@ -1,11 +1,10 @@
 -- Forms: an amount less an amount, as signed numbers. Assumes nothing: these are definitions.
 use mathlib.Core.Path.{_≡_}
-use mathlib.Core.Bool.{cond}
 use mathlib.Core.List.{List, [], _∷_}
 use Prim.Native.Nat.{ℕ, _*_}
-use lib.IntN.{ℤ, pos, negℤ, _+ℤ_, _-ℤ_, _*ℤ_}
+use lib.IntN.{ℤ, pos, negsuc, negℤ, _+ℤ_, _-ℤ_, _*ℤ_}
 use lib.ListN.{length, getD, replicate}
-use lib.Signed.{_≤ℤ_, ltZ}
+use lib.Signed.{_≤ℤ_}
 use Rattle.amount.specs.Amount as amounts
 use Rattle.amount.specs.declared.Amount.{Amount}
 use Rattle.amount.specs.declared.Form.{Form}
@@ -23,12 +22,16 @@ dotℤ (c ∷ cs) (v ∷ vs) = c *ℤ pos v +ℤ dotℤ cs vs
 abbrev pub value : Form → List ℕ → ℤ
 value f vs = f .base +ℤ dotℤ (f .per) vs
 
--- each slot low unless its coefficient is below 0
+abbrev pub low-or-high : ℤ → ℕ → ℕ → ℕ
+low-or-high (pos c) l h = l
+low-or-high (negsuc c) l h = h
+
+-- each slot low where its coefficient is 0 or more, else high
 unfoldable pub lowest : List ℤ → List ℕ → List ℕ → List ℕ
 lowest [] lo hi = []
 lowest (c ∷ cs) [] hi = []
 lowest (c ∷ cs) (l ∷ lo) [] = []
-lowest (c ∷ cs) (l ∷ lo) (h ∷ hi) = cond (ltZ c (pos 0)) h l ∷ lowest cs lo hi
+lowest (c ∷ cs) (l ∷ lo) (h ∷ hi) = low-or-high c l h ∷ lowest cs lo hi
 
 abbrev pub nothing : Form
 nothing = record { base = pos 0; per = replicate 8 (pos 0) }
@@ -39,18 +42,29 @@ each op [] es = []
 each op (c ∷ cs) [] = op c (pos 0) ∷ each op cs []
 each op (c ∷ cs) (e ∷ es) = op c (pos e) ∷ each op cs es
 
+abbrev pub changed : (ℤ → ℤ → ℤ) → Form → amounts.Amount → Form
+changed op f a = record { base = op (f .base) (pos (a .base)); per = each op (f .per) (a .per) }
+
 abbrev pub increased : Form → amounts.Amount → Form
-increased f a = record { base = f .base +ℤ pos (a .base); per = each _+ℤ_ (f .per) (a .per) }
+increased f a = changed _+ℤ_ f a
 
 abbrev pub decreased : Form → amounts.Amount → Form
-decreased f a = record { base = f .base -ℤ pos (a .base); per = each _-ℤ_ (f .per) (a .per) }
+decreased f a = changed _-ℤ_ f a
 
 -- z lies from -n to n
 pub record Within (n : ℕ) (z : ℤ) : Type 0 where
   pub low : negℤ (pos n) ≤ℤ z
   pub high : z ≤ℤ pos n
 
--- no larger than n amounts can make it, whatever the values of their fields' types
+-- no larger than n amounts can make it, whatever the values of their fields
 pub record UpTo (n : ℕ) (f : Form) : Type 0 where
   pub base : Within (4294967295 * n) (f .base)
   pub per : (k : ℕ) → Within (65535 * n) (getD (f .per) k (pos 0))
+
+-- one amount more can be added or taken away. One way through an agreement has at most 64 amounts
+abbrev pub Roomy : Form → Type 0
+Roomy f = UpTo 1023 f
+
+-- what the form comes to, at any slot values, fits 64 bits
+abbrev pub Bounded : Form → Type 0
+Bounded f = UpTo 1024 f

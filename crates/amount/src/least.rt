@@ -1,39 +1,61 @@
 // The least of a form over a box of slot values, and where it lies.
 ghost use mathlib.Core.Path.{_≡_};
-ghost use Rattle.amount.specs.Form.{UpTo, value, lowest};
-
+ghost use Rattle.amount.specs.Corner.{Corner-law};
+ghost use Rattle.amount.specs.Form.{Bounded, value};
+ghost use Rattle.amount.specs.Least.{lowest-in, Corner, Belongs, Exact, None-less, lack, Short};
 use crate::Bounds;
 use crate::Form;
+use crate::SLOTS;
 
 impl Form {
     // What the form comes to at these slot values.
-    fn value(&self, slots: &[u32; 8]) -> i64
-        requires { ⌜ UpTo 1024 (now self) ⌝ }
+    fn value(&self, slots: &[u32; SLOTS]) -> i64
+        requires { ⌜ Bounded (now self) ⌝ }
         ensures { λ r. ⌜ r ≡ value (now (self .entry)) (now (slots .entry)) ⌝ }
     {
         let mut sum = self.base;
-        for k in 0..8 {
+        for k in 0..SLOTS {
             sum += self.per[k] * slots[k] as i64;
         }
         sum
     }
 
-    // The corner of the box where the form is least: each slot low unless its coefficient is below 0.
-    pub fn corner(&self, bounds: &Bounds) -> [u32; 8]
-        ensures { λ r. ⌜ r ≡ lowest (now (self .entry) .per) (now (bounds .entry) .low) (now (bounds .entry) .high) ⌝ }
+    // The corner of the box where the form is least: each slot low where its coefficient is 0 or more, else high.
+    pub fn corner(&self, bounds: &Bounds) -> [u32; SLOTS]
+        ensures is { λ r. ⌜ r ≡ lowest-in (now (self .entry)) (now (bounds .entry)) ⌝ }
+        ensures amounts { λ r. ⌜ Corner (now (self .entry)) (now (bounds .entry)) r ⌝ }
+        ensures belongs { λ r. ⌜ Belongs (now (bounds .entry)) r ⌝ }
     {
-        let mut at = [0; 8];
-        for k in 0..8 {
-            at[k] = if self.per[k] < 0 { bounds.high[k] } else { bounds.low[k] };
+        let mut at = [0; SLOTS];
+        for k in 0..SLOTS {
+            at[k] = if self.per[k] < 0 {
+                bounds.high[k]
+            } else {
+                bounds.low[k]
+            };
         }
         at
     }
 
     // The least value of the form over the box.
     pub fn least(&self, bounds: &Bounds) -> i64
-        requires { ⌜ UpTo 1024 (now self) ⌝ }
-        ensures { λ r. ⌜ r ≡ value (now (self .entry)) (lowest (now (self .entry) .per) (now (bounds .entry) .low) (now (bounds .entry) .high)) ⌝ }
+        requires { ⌜ Bounded (now self) ⌝ }
+        ensures is { λ r. ⌜ r ≡ value (now (self .entry)) (lowest-in (now (self .entry)) (now (bounds .entry))) ⌝ }
+        ensures amounts { λ r. ⌜ Exact (now (self .entry)) (now (bounds .entry)) r ⌝ }
+        ensures bound { λ r. ⌜ None-less (now (self .entry)) (now (bounds .entry)) r ⌝ }
+        ensures law { λ _. ⌜ Corner-law ⌝ }
     {
-        self.value(&self.corner(bounds))
+        let at = self.corner(bounds);
+        self.value(&at)
+    }
+
+    // By how much the form falls below 0 at the worst slot values of the box; 0 where it never does.
+    pub fn shortfall(&self, bounds: &Bounds) -> u64
+        requires { ⌜ Bounded (now self) ⌝ }
+        ensures is { λ r. ⌜ r ≡ lack (value (now (self .entry)) (lowest-in (now (self .entry)) (now (bounds .entry)))) ⌝ }
+        ensures amounts { λ r. ⌜ Short (now (self .entry)) (now (bounds .entry)) r ⌝ }
+    {
+        let least = self.least(bounds);
+        if least < 0 { least.unsigned_abs() } else { 0 }
     }
 }

@@ -8,6 +8,9 @@ mod change;
 mod least;
 mod worth;
 
+// How many slots an agreement can have.
+pub const SLOTS: usize = 8;
+
 // An amount: a base, and the cents for each unit of each slot.
 //
 // An agreement has a base of at most 1,000,000,000 and at most 1,000 cents per unit, and slot values of at most
@@ -15,19 +18,19 @@ mod worth;
 #[derive(Clone, Copy)]
 pub struct Amount {
     pub base: u32,
-    pub per: [u16; 8],
+    pub per: [u16; SLOTS],
 }
 
 // An amount less an amount: the difference of the bases, and of the cents per unit of each slot.
 #[derive(Clone, Copy)]
 pub struct Form {
-    pub base: i64,
-    pub per: [i64; 8],
+    base: i64,
+    per: [i64; SLOTS],
 }
 
 // A box of slot values: the lowest and the highest value of each slot.
 #[derive(Clone, Copy)]
 pub struct Bounds {
-    pub low: [u32; 8],
-    pub high: [u32; 8],
+    pub low: [u32; SLOTS],
+    pub high: [u32; SLOTS],
 }

@@ -3,29 +3,32 @@ ghost use mathlib.Core.Path.{_≡_};
 ghost use Rattle.amount.specs.Amount.{worth};
 ghost use Rattle.amount.specs.Known.{known};
 ghost use Rattle.amount.specs.Form.{meaning};
-
 use crate::Amount;
+use crate::SLOTS;
 
 impl Amount {
     // The cents that the amount comes to at these slot values.
-    pub fn worth(&self, slots: &[u32; 8]) -> u64
+    pub fn worth(&self, slots: &[u32; SLOTS]) -> u64
         ensures { λ r. ⌜ r ≡ worth (meaning (now (self .entry))) (now (slots .entry)) ⌝ }
     {
         let mut sum = self.base as u64;
-        for k in 0..8 {
+        for k in 0..SLOTS {
             sum += self.per[k] as u64 * slots[k] as u64;
         }
         sum
     }
 
     // The amount as it counts while only some slots are set: the others are 0, whatever they are set to later.
-    pub fn known(&self, set: &[bool; 8]) -> Amount
+    pub fn known(&self, set: &[bool; SLOTS]) -> Amount
         ensures { λ r. ⌜ meaning r ≡ known (now (set .entry)) (meaning (now (self .entry))) ⌝ }
     {
-        let mut per = [0; 8];
-        for k in 0..8 {
+        let mut per = [0; SLOTS];
+        for k in 0..SLOTS {
             per[k] = if set[k] { self.per[k] } else { 0 };
         }
-        Amount { base: self.base, per }
+        Amount {
+            base: self.base,
+            per,
+        }
     }
 }

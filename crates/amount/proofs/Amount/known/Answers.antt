@@ -18,4 +18,4 @@ loop-k-again c =
 pub returns : need.returns
 returns c =
     ap (λ cs. record { base = c .args .self .now .base; per = cs })
-      (filled-all _ _ _ _ _ (c .loop-k-test .left) (length-mask _ _ ∙ c .told-set) (c .loop-k .inv))
+    (filled-all _ _ _ _ _ (c .loop-k-test .left) (length-mask _ _ ∙ c .told-set) (c .loop-k .inv))

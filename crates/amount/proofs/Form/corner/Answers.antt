@@ -1,4 +1,6 @@
+use mathlib.Core.Path.{_∙_}
 use borrow.Author.Needs.{needs}
+use Rattle.amount.proofs.Corners.{corner-less, corner-inside}
 use Rattle.amount.proofs.Filled.{filled-none, filled-more, filled-all}
 use Rattle.amount.proofs.Places.{length-lowest, getD-lowest}
 use Rattle.amount.proofs.Form.corner.Needs as need
@@ -12,4 +14,12 @@ loop-k-again c =
     filled-more _ _ _ _ _ _ (c .loop-k .inv) (c .loop-k-test .taken) (search (needs, entry))
 
 pub returns : need.returns
-returns c = filled-all _ _ _ _ _ (c .loop-k-test .left) (search (needs, length-lowest)) (c .loop-k .inv)
+returns c =
+    let form = c .args .self .now in
+    let bounds = c .args .bounds .now in
+    let is = filled-all _ _ _ _ _ (c .loop-k-test .left) (search (needs, length-lowest)) (c .loop-k .inv) in
+    record {
+      is = is;
+      amounts = λ x y less. is ∙ corner-less x y form (bounds .low) (bounds .high) less (search needs);
+      belongs = λ vs i. rw is (corner-inside (form .per) (search needs) i);
+    }
