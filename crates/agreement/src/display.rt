@@ -1,0 +1,33 @@
+// How a refusal is told.
+ghost use mathlib.Core.List.{_++_};
+ghost use mathlib.Core.Path.{_≡_};
+ghost use lib.Chars.{codes};
+ghost use Rattle.std.specs.Written.{decimal};
+ghost use Rattle.std.specs.declared.option.Option.the-variants.{Some};
+ghost use Rattle.agreement.specs.Fault.{number, told};
+use crate::Fault;
+use crate::Refusal;
+use std::fmt;
+
+impl Fault {
+    // The number by which the fault is known.
+    pub fn number(self) -> u8
+        ensures { λ r. ⌜ r ≡ number self ⌝ }
+    {
+        match self {
+            Fault::Parties => 1,
+            Fault::Slots => 2,
+            Fault::Cut => 3,
+        }
+    }
+}
+
+pub impl fmt::Display for Refusal as RefusalDisplay {
+    ghost shown = { λ r. Some (told r) };
+
+    fn fmt<W: fmt::Write>(&self, f: &mut fmt::Formatter<W>) -> fmt::Result {
+        let number = self.fault.number();
+        let place = self.place;
+        write!(f, "refused {number} at {place}")
+    }
+}
