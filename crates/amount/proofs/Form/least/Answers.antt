@@ -20,7 +20,9 @@ returns c =
     let is = there ∙ ap (value form) (c .corner-at .ensures .is) in
     record {
       is = is;
-      amounts = λ x y less. there ∙ value-less x y form (c .corner-at .result) less ∙ ap (λ vs. pos (worth x vs) -ℤ pos (worth y vs)) (c .corner-at .ensures .amounts x y less);
-      bound = λ vs i. rw is (none-less form (bounds .low) vs (bounds .high) i);
+      amounts = λ x y less. record {
+        reached = there ∙ value-less x y form (c .corner-at .result) less ∙ ap (λ vs. pos (worth x vs) -ℤ pos (worth y vs)) (c .corner-at .ensures .amounts x y less);
+        none-less = λ vs i. rw (is, ← value-less x y form vs less) (none-less form (bounds .low) vs (bounds .high) i);
+      };
       law = corner-law;
     }
