@@ -1,8 +1,5 @@
 // How a refusal is told.
-ghost use mathlib.Core.List.{_++_};
 ghost use mathlib.Core.Path.{_≡_};
-ghost use lib.Chars.{codes};
-ghost use Rattle.std.specs.Written.{decimal};
 ghost use Rattle.std.specs.declared.option.Option.the-variants.{Some};
 ghost use Rattle.agreement.specs.Fault.{number, told};
 use crate::Fault;

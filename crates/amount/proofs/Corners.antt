@@ -1,14 +1,14 @@
 -- The corner of a box at which a form is least.
 use mathlib.Core.Path.{_≡_, refl, sym, ap, _∙_}
 use mathlib.Core.List.{List, [], _∷_}
-use Prim.Native.Nat.{ℕ, zero, suc, _+_, _-_, _*_, _≤_, _<_}
+use Prim.Native.Nat.{ℕ, zero, suc, _-_, _≤_}
 use native.Mathlib.Nat.{mul-le-mul-left}
 use native.Mathlib.Omega.{arith}
-use lib.IntN.{ℤ, pos, negsuc, _+ℤ_, _-ℤ_, _*ℤ_}
-use lib.ListN.{length, getD}
-use lib.Signed.{_≤ℤ_, ltZ}
+use lib.IntN.{ℤ, pos, negsuc, _-ℤ_, _*ℤ_}
+use lib.ListN.{length}
+use lib.Signed.{_≤ℤ_}
 use Rattle.std.proofs.shelf.Signed.{ints}
-use Rattle.amount.specs.Amount.{Amount, dot, worth}
+use Rattle.amount.specs.Amount.{Amount, worth}
 use Rattle.amount.specs.Corner.{corner, Inside, none, one, Corner-law}
 use Rattle.amount.specs.Form.{dotℤ, value, lowest, low-or-high}
 use Rattle.amount.specs.Less.{Less}

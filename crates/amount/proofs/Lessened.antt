@@ -15,16 +15,12 @@ use Rattle.amount.specs.Amount.{Amount, dot, worth}
 use Rattle.amount.specs.Form.{dotℤ, value, each, increased, decreased}
 use Rattle.amount.specs.Less.{Less, sums, together}
 use Rattle.amount.specs.declared.Form.{Form}
+use Rattle.amount.proofs.Dots.{dot-nil}
 use Rattle.amount.proofs.Places.{length-each, getD-each}
 
 -- coefficient by coefficient
 abbrev pub Apart : List ℤ → List ℕ → List ℕ → Type 0
 Apart cs xs ys = (k : ℕ) → getD cs k (pos 0) ≡ pos (getD xs k 0) -ℤ pos (getD ys k 0)
-
-dot-nil : (xs : List ℕ) → dot xs [] ≡ 0
-unfolding dot
-dot-nil [] = refl
-dot-nil (x ∷ xs) = refl
 
 dot-first : (xs : List ℕ) (v : ℕ) (vs : List ℕ) → dot xs (v ∷ vs) ≡ getD xs 0 0 * v + dot (drop 1 xs) vs
 unfolding dot

@@ -1,9 +1,8 @@
 -- Forms: an amount less an amount, as signed numbers. Assumes nothing: these are definitions.
-use mathlib.Core.Path.{_≡_}
 use mathlib.Core.List.{List, [], _∷_}
 use Prim.Native.Nat.{ℕ, _*_}
 use lib.IntN.{ℤ, pos, negsuc, negℤ, _+ℤ_, _-ℤ_, _*ℤ_}
-use lib.ListN.{length, getD, replicate}
+use lib.ListN.{getD, replicate}
 use lib.Signed.{_≤ℤ_}
 use Rattle.amount.specs.Amount as amounts
 use Rattle.amount.specs.declared.Amount.{Amount}
@@ -13,6 +12,7 @@ use Rattle.amount.specs.declared.Form.{Form}
 abbrev pub meaning : Amount → amounts.Amount
 meaning a = record { base = a .base; per = a .per }
 
+-- each coefficient times its slot's value, summed
 unfoldable pub dotℤ : List ℤ → List ℕ → ℤ
 dotℤ [] vs = pos 0
 dotℤ (c ∷ cs) [] = pos 0
@@ -22,21 +22,23 @@ dotℤ (c ∷ cs) (v ∷ vs) = c *ℤ pos v +ℤ dotℤ cs vs
 abbrev pub value : Form → List ℕ → ℤ
 value f vs = f .base +ℤ dotℤ (f .per) vs
 
+-- low where the coefficient is 0 or more, else high
 abbrev pub low-or-high : ℤ → ℕ → ℕ → ℕ
 low-or-high (pos c) l h = l
 low-or-high (negsuc c) l h = h
 
--- each slot low where its coefficient is 0 or more, else high
+-- that, for each slot
 unfoldable pub lowest : List ℤ → List ℕ → List ℕ → List ℕ
 lowest [] lo hi = []
 lowest (c ∷ cs) [] hi = []
 lowest (c ∷ cs) (l ∷ lo) [] = []
 lowest (c ∷ cs) (l ∷ lo) (h ∷ hi) = low-or-high c l h ∷ lowest cs lo hi
 
+-- what an account is at first
 abbrev pub nothing : Form
 nothing = record { base = pos 0; per = replicate 8 (pos 0) }
 
--- coefficient by coefficient
+-- op on each coefficient and that of the amount, which is 0 where the list lacks it
 unfoldable pub each : (ℤ → ℤ → ℤ) → List ℤ → List ℕ → List ℤ
 each op [] es = []
 each op (c ∷ cs) [] = op c (pos 0) ∷ each op cs []
@@ -56,7 +58,7 @@ pub record Within (n : ℕ) (z : ℤ) : Type 0 where
   pub low : negℤ (pos n) ≤ℤ z
   pub high : z ≤ℤ pos n
 
--- no larger than n amounts can make it, whatever the values of their fields
+-- no larger than n amounts can make it: a base is below 2 ^ 32, and cents per unit are below 2 ^ 16
 pub record UpTo (n : ℕ) (f : Form) : Type 0 where
   pub base : Within (4294967295 * n) (f .base)
   pub per : (k : ℕ) → Within (65535 * n) (getD (f .per) k (pos 0))

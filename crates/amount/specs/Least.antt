@@ -15,9 +15,13 @@ use Rattle.amount.specs.declared.Form.{Form}
 abbrev pub lowest-in : Form → Bounds → List ℕ
 lowest-in f b = lowest (f .per) (b .low) (b .high)
 
+-- the corner of the box at which x less y is least
+abbrev pub corner-of : Amount → Amount → Bounds → List ℕ
+corner-of x y b = corner (x .per) (y .per) (b .low) (b .high)
+
 -- the form is least at the corner of the two amounts that it stands for
-abbrev pub Corner : Form → Bounds → List ℕ → Type 0
-Corner f b vs = (x y : Amount) → Less x y f → vs ≡ corner (x .per) (y .per) (b .low) (b .high)
+abbrev pub At-corner : Form → Bounds → List ℕ → Type 0
+At-corner f b vs = (x y : Amount) → Less x y f → vs ≡ corner-of x y b
 
 -- the corner belongs to the box if the box holds anything
 abbrev pub Belongs : Bounds → List ℕ → Type 0
@@ -25,7 +29,7 @@ Belongs b vs = (ws : List ℕ) → Inside (b .low) ws (b .high) → Inside (b .l
 
 -- r is the least that x less y comes to over the box: it does so at the corner, and no slot values of the box give less
 pub record Least (x y : Amount) (b : Bounds) (r : ℤ) : Type 0 where
-  pub reached : r ≡ pos (worth x (corner (x .per) (y .per) (b .low) (b .high))) -ℤ pos (worth y (corner (x .per) (y .per) (b .low) (b .high)))
+  pub reached : r ≡ pos (worth x (corner-of x y b)) -ℤ pos (worth y (corner-of x y b))
   pub none-less : (vs : List ℕ) → Inside (b .low) vs (b .high) → r ≤ℤ (pos (worth x vs) -ℤ pos (worth y vs))
 
 -- that, of the two amounts that the form stands for
@@ -39,7 +43,7 @@ lack (negsuc n) = suc n
 
 -- x falls short of y by r at the corner, and by no more at any slot values of the box
 pub record Shortage (x y : Amount) (b : Bounds) (r : ℕ) : Type 0 where
-  pub reached : r ≡ worth y (corner (x .per) (y .per) (b .low) (b .high)) - worth x (corner (x .per) (y .per) (b .low) (b .high))
+  pub reached : r ≡ worth y (corner-of x y b) - worth x (corner-of x y b)
   pub none-more : (vs : List ℕ) → Inside (b .low) vs (b .high) → worth y vs ≤ worth x vs + r
 
 -- that, of the two amounts that the form stands for

@@ -13,6 +13,7 @@ pub record Less (x y : Amount) (f : Form) : Type 0 where
   pub per : (k : ℕ) → getD (f .per) k (pos 0) ≡ pos (getD (x .per) k 0) -ℤ pos (getD (y .per) k 0)
   pub long : length (x .per) ≡ length (f .per)
 
+-- place by place; what a list lacks is 0
 unfoldable pub sums : List ℕ → List ℕ → List ℕ
 sums [] es = es
 sums (c ∷ cs) [] = c ∷ cs

@@ -2,7 +2,7 @@
 ghost use mathlib.Core.Path.{_≡_};
 ghost use Rattle.amount.specs.Corner.{Corner-law};
 ghost use Rattle.amount.specs.Form.{Bounded, value, low-or-high};
-ghost use Rattle.amount.specs.Least.{lowest-in, Corner, Belongs, Exact, lack, Short};
+ghost use Rattle.amount.specs.Least.{lowest-in, At-corner, Belongs, Exact, lack, Short};
 use crate::Bounds;
 use crate::Form;
 use crate::SLOTS;
@@ -30,7 +30,7 @@ impl Form {
     // The corner of the box where the form is least: each slot low where its coefficient is 0 or more, else high.
     pub fn corner(&self, bounds: &Bounds) -> [u32; SLOTS]
         ensures is { λ r. ⌜ r ≡ lowest-in (now (self .entry)) (now (bounds .entry)) ⌝ }
-        ensures amounts { λ r. ⌜ Corner (now (self .entry)) (now (bounds .entry)) r ⌝ }
+        ensures amounts { λ r. ⌜ At-corner (now (self .entry)) (now (bounds .entry)) r ⌝ }
         ensures belongs { λ r. ⌜ Belongs (now (bounds .entry)) r ⌝ }
     {
         let mut at = [0; SLOTS];

@@ -1,7 +1,7 @@
 // What an amount is worth, and what of it counts before all slots are set.
 ghost use mathlib.Core.Path.{_≡_};
 ghost use Rattle.amount.specs.Amount.{worth};
-ghost use Rattle.amount.specs.Known.{known};
+ghost use Rattle.amount.specs.Known.{known, Counts};
 ghost use Rattle.amount.specs.Form.{meaning};
 use crate::Amount;
 use crate::SLOTS;
@@ -20,7 +20,8 @@ impl Amount {
 
     // The amount as it counts while only some slots are set: the others are 0, whatever they are set to later.
     pub fn known(&self, set: &[bool; SLOTS]) -> Amount
-        ensures { λ r. ⌜ meaning r ≡ known (now (set .entry)) (meaning (now (self .entry))) ⌝ }
+        ensures is { λ r. ⌜ meaning r ≡ known (now (set .entry)) (meaning (now (self .entry))) ⌝ }
+        ensures counts { λ r. ⌜ Counts (now (set .entry)) (meaning (now (self .entry))) (meaning r) ⌝ }
     {
         let mut per = [0; SLOTS];
         for k in 0..SLOTS {

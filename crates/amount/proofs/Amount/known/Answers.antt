@@ -1,8 +1,8 @@
-use mathlib.Core.Path.{ap, sym, _∙_}
+use mathlib.Core.Path.{ap, _∙_}
+use Prim.Native.Nat.{_+_}
 use borrow.Author.Needs.{needs}
-use native.Mathlib.Omega.{arith}
-use Rattle.std.proofs.shelf.Ways.{tells}
-use Rattle.amount.specs.Known.{mask}
+use Rattle.amount.specs.Amount.{dot}
+use Rattle.amount.proofs.Dots.{dot-mask}
 use Rattle.amount.proofs.Filled.{filled-none, filled-more, filled-all}
 use Rattle.amount.proofs.Places.{length-mask, getD-mask}
 use Rattle.amount.proofs.Amount.known.Needs as need
@@ -17,5 +17,9 @@ loop-k-again c =
 
 pub returns : need.returns
 returns c =
-    ap (λ cs. record { base = c .args .self .now .base; per = cs })
-    (filled-all _ _ _ _ _ (c .loop-k-test .left) (length-mask _ _ ∙ c .told-set) (c .loop-k .inv))
+    let amount = c .args .self .now in
+    let per = filled-all _ _ _ _ _ (c .loop-k-test .left) (length-mask (c .args .set .now) (amount .per) ∙ c .told-set) (c .loop-k .inv) in
+    record {
+      is = ap (λ cs. record { base = amount .base; per = cs }) per;
+      counts = λ vs. ap (λ n. amount .base + n) (ap (λ cs. dot cs vs) per ∙ dot-mask (c .args .set .now) (amount .per) vs);
+    }

@@ -1,4 +1,4 @@
-use mathlib.Core.Path.{_≡_, ap, _∙_}
+use mathlib.Core.Path.{ap, _∙_}
 use borrow.Author.Needs.{needs}
 use lib.IntN.{pos, _-ℤ_}
 use mir.Syntax.{w64}
@@ -6,7 +6,6 @@ use mir.Val.{SFits}
 use Rattle.std.proofs.shelf.Signed.{toZ-ofZ}
 use Rattle.amount.specs.Amount.{worth}
 use Rattle.amount.specs.Form.{value}
-use Rattle.amount.specs.Least.{lowest-in}
 use Rattle.amount.proofs.Corners.{none-less, corner-law}
 use Rattle.amount.proofs.Lessened.{value-less}
 use Rattle.amount.proofs.Form.least.Needs as need
