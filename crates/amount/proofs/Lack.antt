@@ -1,22 +1,13 @@
 -- By how much a number is below 0.
-use mathlib.Core.Path.{_≡_, refl, _∙_}
-use mathlib.Core.Bool.{true, false}
+use mathlib.Core.Path.{_≡_, _∙_}
 use Prim.Native.Nat.{ℕ, _+_, _-_, _≤_}
 use native.Mathlib.Omega.{arith}
-use lib.IntN.{ℤ, pos, negsuc, natAbs, _-ℤ_}
-use lib.Signed.{ltZ, _≤ℤ_}
+use lib.IntN.{ℤ, pos, negsuc, _-ℤ_}
+use lib.Signed.{_≤ℤ_}
 use Rattle.std.proofs.shelf.Signed.{ints}
 use Rattle.amount.specs.Amount.{Amount}
 use Rattle.amount.specs.Least.{lack, Least, Shortage}
 use Rattle.amount.specs.declared.Bounds.{Bounds}
-
-pub lack-below : (z : ℤ) → ltZ z (pos 0) ≡ true → natAbs z ≡ lack z
-lack-below (pos n) h = absurd (omega (arith, ints))
-lack-below (negsuc n) h = refl
-
-pub lack-above : (z : ℤ) → ltZ z (pos 0) ≡ false → 0 ≡ lack z
-lack-above (pos n) h = refl
-lack-above (negsuc n) h = absurd (omega (arith, ints))
 
 lack-less : (z : ℤ) (m n : ℕ) → z ≡ pos m -ℤ pos n → lack z ≡ n - m
 lack-less (pos k) m n h = omega (arith, ints)

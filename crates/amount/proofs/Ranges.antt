@@ -6,7 +6,7 @@ use native.Mathlib.Omega.{arith}
 use lib.IntN.{ℤ, pos, negsuc, _+ℤ_, _-ℤ_, _*ℤ_}
 use mir.Syntax.{w64}
 use mir.Val.{toZ, ofZ}
-use Rattle.std.proofs.shelf.Signed.{ints, toZ-pos}
+use Rattle.std.proofs.shelf.Signed.{ints}
 use Rattle.amount.specs.Form.{Within, UpTo}
 use Rattle.amount.specs.declared.Form.{Form}
 
@@ -38,15 +38,4 @@ pub upto-more : (m n : ℕ) (f : Form) → m ≤ n → UpTo m f → UpTo n f
 upto-more m n f h u = record {
   base = within-more _ _ _ (product-le 4294967295 n 4294967295 m (omega arith) h) (u .base);
   per = λ k. within-more _ _ _ (product-le 65535 n 65535 m (omega arith) h) (u .per k);
-}
-
--- one term of a form's value, as 64 bits reckon it, is exact
-pub record Term (c : ℤ) (v : ℕ) : Type 0 where
-  pub factors : toZ w64 (ofZ w64 c) *ℤ toZ w64 v ≡ c *ℤ pos v
-  pub range : Within (65535 * 1024 * 4294967295) (c *ℤ pos v)
-
-pub term : (c : ℤ) (v : ℕ) → Within (65535 * 1024) c → v ≤ 4294967295 → Term c v
-term c v w h = record {
-  factors = λ i. exact c (within-more _ _ c (omega arith) w) i *ℤ toZ-pos w64 v (omega arith) i;
-  range = within-product (65535 * 1024) 4294967295 c v w h;
 }

@@ -1,17 +1,35 @@
 // The least of a form over a box of slot values, and where it lies.
 ghost use mathlib.Core.Path.{_≡_};
+ghost use Prim.Native.Nat.{_*_};
+ghost use lib.IntN.{pos, _*ℤ_};
 ghost use Rattle.amount.specs.Corner.{Corner-law};
-ghost use Rattle.amount.specs.Form.{Bounded, value, low-or-high};
+ghost use Rattle.amount.specs.Form.{Within, Bounded, value, low-or-high};
 ghost use Rattle.amount.specs.Least.{lowest-in, At-corner, Belongs, Exact, lack, Short};
 use crate::Bounds;
 use crate::Form;
 use crate::SLOTS;
+
+// What so many units of a slot add to a form's value.
+fn term(coefficient: i64, units: u32) -> i64
+    requires { ⌜ Within (65535 * 1024) coefficient ⌝ }
+    ensures is { λ r. ⌜ r ≡ coefficient *ℤ pos units ⌝ }
+    ensures range { λ r. ⌜ Within (65535 * 1024 * 4294967295) r ⌝ }
+{
+    coefficient * units as i64
+}
 
 // The value of one slot at which its term of a form is least; low where it doesn't matter.
 fn low_or_high(coefficient: i64, low: u32, high: u32) -> u32
     ensures { λ r. ⌜ r ≡ low-or-high coefficient low high ⌝ }
 {
     if coefficient < 0 { high } else { low }
+}
+
+// By how much a value is below 0.
+fn lack(value: i64) -> u64
+    ensures { λ r. ⌜ r ≡ lack value ⌝ }
+{
+    if value < 0 { value.unsigned_abs() } else { 0 }
 }
 
 impl Form {
@@ -22,7 +40,7 @@ impl Form {
     {
         let mut sum = self.base;
         for k in 0..SLOTS {
-            sum += self.per[k] * slots[k] as i64;
+            sum += term(self.per[k], slots[k]);
         }
         sum
     }
@@ -57,7 +75,6 @@ impl Form {
         ensures is { λ r. ⌜ r ≡ lack (value (now (self .entry)) (lowest-in (now (self .entry)) (now (bounds .entry)))) ⌝ }
         ensures amounts { λ r. ⌜ Short (now (self .entry)) (now (bounds .entry)) r ⌝ }
     {
-        let least = self.least(bounds);
-        if least < 0 { least.unsigned_abs() } else { 0 }
+        lack(self.least(bounds))
     }
 }

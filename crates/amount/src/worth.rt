@@ -1,10 +1,19 @@
 // What an amount is worth, and what of it counts before all slots are set.
 ghost use mathlib.Core.Path.{_≡_};
+ghost use Prim.Native.Nat.{_*_, _≤_};
 ghost use Rattle.amount.specs.Amount.{worth};
 ghost use Rattle.amount.specs.Known.{known, Counts};
 ghost use Rattle.amount.specs.Form.{meaning};
 use crate::Amount;
 use crate::SLOTS;
+
+// What so many units of a slot add to an amount's worth.
+fn term(cents: u16, units: u32) -> u64
+    ensures is { λ r. ⌜ r ≡ cents * units ⌝ }
+    ensures range { λ r. ⌜ r ≤ 65535 * 4294967295 ⌝ }
+{
+    cents as u64 * units as u64
+}
 
 impl Amount {
     // The cents that the amount comes to at these slot values.
@@ -13,7 +22,7 @@ impl Amount {
     {
         let mut sum = self.base as u64;
         for k in 0..SLOTS {
-            sum += self.per[k] as u64 * slots[k] as u64;
+            sum += term(self.per[k], slots[k]);
         }
         sum
     }

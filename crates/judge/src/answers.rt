@@ -1,7 +1,7 @@
 // What is answered to an input.
 ghost use mathlib.Core.Path.{_≡_};
 ghost use Rattle.std.specs.declared.option.Option.the-variants.{Some};
-ghost use Rattle.judge.specs.Answer.{answer-of, told};
+ghost use Rattle.judge.specs.Answer.{answer-of, after-header, Settled, told};
 use agreement::Refusal;
 use agreement::RefusalDisplay;
 use agreement::read_header;
@@ -16,14 +16,22 @@ pub enum Answer {
 
 // So far the header is checked, and an agreement that is over at once is judged.
 pub fn answer_to(bytes: &[u8]) -> Answer
-    ensures { λ r. ⌜ r ≡ answer-of (now (bytes .entry)) ⌝ }
+    ensures is { λ r. ⌜ r ≡ answer-of (now (bytes .entry)) ⌝ }
+    ensures settled { λ r. ⌜ Settled (now (bytes .entry)) r ⌝ }
 {
     match read_header(bytes) {
         Err(refusal) => Answer::Refused(refusal),
-        Ok(_) => match bytes {
-            [_, _, 0] => Answer::Clear,
-            _ => Answer::NotJudged,
-        },
+        Ok(_) => after_header(bytes),
+    }
+}
+
+// The answer to bytes whose header is good.
+fn after_header(bytes: &[u8]) -> Answer
+    ensures { λ r. ⌜ r ≡ after-header (now (bytes .entry)) ⌝ }
+{
+    match bytes {
+        [_, _, 0] => Answer::Clear,
+        _ => Answer::NotJudged,
     }
 }
 

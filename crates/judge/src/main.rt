@@ -11,8 +11,8 @@ use std::alloc::Global;
 use std::io;
 use std::io::Read;
 
-// An agreement has at most 16,384 bytes. What stands further behind than this changes no answer, so it is read and
-// let go: an input of any length takes the same memory.
+// An agreement has at most 16,384 bytes. What stands further behind than this changes no answer (`answer_to` promises
+// that), so it is read and let go: an input of any length takes the same memory.
 const ENOUGH: usize = 32_768;
 
 fn main(rt: LibcRuntime) -> io::Result<()> {
@@ -36,4 +36,28 @@ fn read_input<R: Read>(input: &mut R, heap: Global) -> io::Result<Vec<u8>>
         }
     }
     Ok(bytes)
+}
+
+#[cfg(test)]
+mod tests {
+    use super::*;
+    use std::test::*;
+
+    #[test]
+    fn the_front_is_kept(rt: LibcRuntime) -> Result<(), Fail> {
+        let mut input = Vec::new(rt.alloc());
+        for i in 0..100_000u32 {
+            input.push((i % 251) as u8)?;
+        }
+        let all = input.as_slice();
+        let kept = read_input(&mut &all[0..all.len()], rt.alloc())?;
+        check(ENOUGH <= kept.len() && kept.len() <= all.len())?;
+        check_eq(kept.as_slice(), &all[0..kept.len()])
+    }
+
+    #[test]
+    fn a_short_input_is_kept_whole(rt: LibcRuntime) -> Result<(), Fail> {
+        let kept = read_input(&mut b"abc".as_slice(), rt.alloc())?;
+        check_eq(kept.as_slice(), b"abc".as_slice())
+    }
 }
