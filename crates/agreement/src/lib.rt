@@ -1,9 +1,27 @@
-// Agreements as bytes. So far only their first two bytes are read: the number of parties and the number of slots.
+// Agreements as bytes.
 mod display;
+mod draft;
+mod numbers;
+mod places;
 mod reading;
+mod seen;
+mod steps;
+mod writing;
 
 pub use display::RefusalDisplay;
-pub use reading::read_header;
+pub use draft::ActList;
+pub use draft::Draft;
+pub use draft::Thing;
+pub use places::Act;
+pub use places::Acts;
+pub use places::Place;
+pub use places::Rest;
+pub use places::Step;
+pub use reading::read;
+pub use writing::write;
+
+// How deep things may be nested.
+const DEEPEST: u8 = 64;
 
 // What can be wrong with an input. Each case has a number, which is printed.
 #[derive(Clone, Copy)]
@@ -11,6 +29,20 @@ pub enum Fault {
     Parties,
     Slots,
     Cut,
+    Kind,
+    TooLarge,
+    Party,
+    Slot,
+    Cents,
+    Value,
+    ActCount,
+    SetTwice,
+    Alike,
+    Surplus,
+    Message,
+    Sender,
+    NotClear,
+    Memory,
 }
 
 // Why an input is turned away, and the place of the first byte that is wrong.
@@ -20,9 +52,17 @@ pub struct Refusal {
     pub place: usize,
 }
 
-// What an agreement says first: 1 to 8 parties, 0 to 8 slots.
+// An agreement that was read: for how many parties and slots, and its bytes behind these two.
 #[derive(Clone, Copy)]
-pub struct Header {
-    pub parties: u8,
-    pub slots: u8,
+pub struct Agreement<'a> {
+    parties: u8,
+    slots: u8,
+    bytes: &'a [u8],
+}
+
+// A check that failed while so many bytes were left.
+#[derive(Clone, Copy)]
+struct Wrong {
+    fault: Fault,
+    left: usize,
 }

@@ -1,40 +1,206 @@
-// Reading the first two bytes.
+// Reading an agreement: a thing and a waiting's acts are read by two functions that call each other.
 ghost use mathlib.Core.Path.{_≡_};
-ghost use Rattle.agreement.specs.Header.{header-of};
+ghost use mathlib.Core.List.{List};
+ghost use Prim.Native.Nat.{ℕ, _<_, _≤_};
+ghost use lib.ListN.{length};
+ghost use Rattle.std.specs.Vec.{made};
+ghost use Rattle.agreement.specs.Checks.{Key, acts, thing, walker};
+ghost use Rattle.agreement.specs.Reading.{First, Taking, answered, reading};
+ghost use Rattle.agreement.specs.Steps.{Goes, Keeps, Acts-on, Whole, counted};
+ghost use Rattle.agreement.specs.declared.Wrong.{Wrong as Failed};
+use crate::Agreement;
+use crate::DEEPEST;
 use crate::Fault;
-use crate::Header;
 use crate::Refusal;
+use crate::Wrong;
+use crate::seen::Seen;
+use crate::steps::read_byte;
+use crate::steps::read_deposit;
+use crate::steps::read_fork;
+use crate::steps::read_payment;
+use crate::steps::read_setting;
+use crate::steps::read_waiting;
 
-impl Fault {
-    // The refusal for this fault at a place.
-    fn at(self, place: usize) -> Refusal
-        ensures { λ r. ⌜ r ≡ record { fault = self; place = place } ⌝ }
-    {
-        Refusal { fault: self, place }
+// The most things that an agreement may have.
+const MOST_THINGS: u16 = 512;
+
+// The way to a thing: for how many parties and slots, and which slots are set on it before.
+#[derive(Clone, Copy)]
+pub(crate) struct Way {
+    parties: u8,
+    slots: u8,
+    used: [bool; 8],
+}
+
+// What an act has before its continuation; the slots set before that are handed on.
+fn read_act<'a>(bytes: &'a [u8], way: &Way, seen: &mut Seen) -> Result<([bool; 8], &'a [u8]), Wrong>
+    requires few_parties { ⌜ now way .parties ≤ 8 ⌝ }
+    requires few_slots { ⌜ now way .slots ≤ 8 ⌝ }
+    ensures goes { λ r. ⌜ ((keys : List Key) → Keeps (now (seen .entry)) keys → Acts-on (now (way .entry) .parties) (now (way .entry) .slots) (now (way .entry) .used) (now (bytes .entry)) keys (now (seen .exit)) r) ⌝ }
+    ensures shorter { λ r. ⌜ made r (λ x. length (now (x .1)) < length (now (bytes .entry))) ⌝ }
+{
+    let (kind, rest) = read_byte(bytes)?;
+    match kind {
+        1 => {
+            if seen.has_deposit(bytes) {
+                return Err(Fault::Alike.with(bytes.len()));
+            }
+            let (party, account, rest) = read_deposit(rest, way.parties, way.slots)?;
+            seen.add_deposit(party, account);
+            Ok((way.used, rest))
+        }
+        2 => {
+            if seen.has_setting(bytes) {
+                return Err(Fault::Alike.with(bytes.len()));
+            }
+            let (party, slot, rest) = read_setting(rest, way.parties, way.slots, &way.used)?;
+            seen.add_setting(party, slot);
+            let mut used = way.used;
+            used[slot as usize] = true;
+            Ok((used, rest))
+        }
+        _ => Err(Fault::Kind.with(bytes.len())),
     }
 }
 
-// The number of parties and of slots, or the first thing that is wrong with these bytes or missing after them.
-pub fn read_header(bytes: &[u8]) -> Result<Header, Refusal>
-    ensures { λ r. ⌜ r ≡ header-of (now (bytes .entry)) ⌝ }
+// How far reading has come: so many things, and the bytes still to be read.
+#[derive(Clone, Copy)]
+struct Ahead<'a> {
+    things: u16,
+    rest: &'a [u8],
+}
+
+// So many acts. `depth` is how deep their continuations are.
+fn read_acts<'a>(
+    bytes: &'a [u8],
+    way: &Way,
+    depth: u8,
+    count: u8,
+    things: u16,
+    seen: &mut Seen,
+) -> Result<Ahead<'a>, Wrong>
+    requires few_parties { ⌜ now way .parties ≤ 8 ⌝ }
+    requires few_slots { ⌜ now way .slots ≤ 8 ⌝ }
+    ensures goes { λ r. ⌜ ((n : ℕ) → length (now (bytes .entry)) ≤ n → (keys : List Key) → Keeps (now (seen .entry)) keys → (k : ℕ → List ℕ → List Failed) → Goes r (acts (now (way .entry) .parties) (now (way .entry) .slots) (walker (now (way .entry) .parties) (now (way .entry) .slots) depth n) (now (way .entry) .used) count keys things (now (bytes .entry)) k) (λ x. k (x .things) (now (x .rest)))) ⌝ }
+    ensures shorter { λ r. ⌜ made r (λ x. length (now (x .rest)) ≤ length (now (bytes .entry))) ⌝ }
 {
-    let [parties, ..] = bytes else {
-        return Err(Fault::Cut.at(0));
-    };
-    if *parties < 1 || 8 < *parties {
-        return Err(Fault::Parties.at(0));
+    if count == 0 {
+        return Ok(Ahead {
+            things,
+            rest: bytes,
+        });
     }
-    let [_, slots, ..] = bytes else {
-        return Err(Fault::Cut.at(1));
+    let (used, rest) = read_act(bytes, way, seen)?;
+    let inner = Way {
+        parties: way.parties,
+        slots: way.slots,
+        used,
     };
-    if 8 < *slots {
-        return Err(Fault::Slots.at(1));
+    let ahead = read_thing(rest, &inner, depth, things)?;
+    read_acts(ahead.rest, way, depth, count - 1, ahead.things, seen)
+}
+
+// One of the four things.
+fn read_thing<'a>(bytes: &'a [u8], way: &Way, depth: u8, things: u16) -> Result<Ahead<'a>, Wrong>
+    requires few_parties { ⌜ now way .parties ≤ 8 ⌝ }
+    requires few_slots { ⌜ now way .slots ≤ 8 ⌝ }
+    ensures goes { λ r. ⌜ ((n : ℕ) → length (now (bytes .entry)) ≤ n → (k : ℕ → List ℕ → List Failed) → Goes r (thing (now (way .entry) .parties) (now (way .entry) .slots) (now (way .entry) .used) depth things (now (bytes .entry)) n k) (λ x. k (x .things) (now (x .rest)))) ⌝ }
+    ensures shorter { λ r. ⌜ made r (λ x. length (now (x .rest)) < length (now (bytes .entry))) ⌝ }
+{
+    let Some((kind, rest)) = bytes.split_first() else {
+        return Err(Fault::Cut.with(0));
+    };
+    if *kind > 3 {
+        return Err(Fault::Kind.with(bytes.len()));
     }
-    let [_, _, _, ..] = bytes else {
-        return Err(Fault::Cut.at(2));
+    if depth > DEEPEST || things >= MOST_THINGS {
+        return Err(Fault::TooLarge.with(bytes.len()));
+    }
+    let things = things + 1;
+    match *kind {
+        0 => Ok(Ahead { things, rest }),
+        1 => {
+            let rest = read_payment(rest, way.parties, way.slots)?;
+            read_thing(rest, way, depth + 1, things)
+        }
+        2 => {
+            let rest = read_fork(rest, way.slots)?;
+            let ahead = read_thing(rest, way, depth + 1, things)?;
+            read_thing(ahead.rest, way, depth + 1, ahead.things)
+        }
+        _ => {
+            let (count, rest) = read_waiting(rest)?;
+            let ahead = read_acts(rest, way, depth + 1, count, things, &mut Seen::none())?;
+            read_thing(ahead.rest, way, depth + 1, ahead.things)
+        }
+    }
+}
+
+// The whole: the number of parties, the number of slots, the first thing, and nothing behind it.
+fn read_whole(bytes: &[u8]) -> Result<Agreement<'_>, Wrong>
+    ensures { λ r. ⌜ Whole (now (bytes .entry)) r ⌝ }
+{
+    let (parties, rest) = read_byte(bytes)?;
+    if parties < 1 || parties > 8 {
+        return Err(Fault::Parties.with(bytes.len()));
+    }
+    let (slots, first) = read_byte(rest)?;
+    if slots > 8 {
+        return Err(Fault::Slots.with(rest.len()));
+    }
+    let way = Way {
+        parties,
+        slots,
+        used: [false; 8],
     };
-    Ok(Header {
-        parties: *parties,
-        slots: *slots,
+    let ahead = read_thing(first, &way, 1, 0)?;
+    if !ahead.rest.is_empty() {
+        return Err(Fault::Surplus.with(ahead.rest.len()));
+    }
+    Ok(Agreement {
+        parties,
+        slots,
+        bytes: first,
     })
+}
+
+// The most bytes that an agreement may have.
+const LONGEST: usize = 16_384;
+
+impl Wrong {
+    // The refusal of so many bytes: more than the most is wrong too, at the first too many.
+    fn among(self, length: usize) -> Refusal
+        requires { ⌜ self .left ≤ length ⌝ }
+        ensures { λ r. ⌜ r ≡ counted length self ⌝ }
+    {
+        let place = length - self.left;
+        if place <= LONGEST {
+            Refusal {
+                fault: self.fault,
+                place,
+            }
+        } else {
+            Refusal {
+                fault: Fault::Surplus,
+                place: LONGEST,
+            }
+        }
+    }
+}
+
+// The agreement, or the first thing that is wrong with the bytes: of all checks that fail the one with the smallest
+// place, and of those at one place the one with the smallest number.
+pub fn read(bytes: &[u8]) -> Result<Agreement<'_>, Refusal>
+    ensures is { λ r. ⌜ answered r ≡ reading (now (bytes .entry)) ⌝ }
+    ensures first { λ r. ⌜ First (now (bytes .entry)) (answered r) ⌝ }
+    ensures taken { λ r. ⌜ Taking (now (bytes .entry)) (answered r) ⌝ }
+{
+    match read_whole(bytes) {
+        Err(wrong) => Err(wrong.among(bytes.len())),
+        Ok(agreement) if bytes.len() <= LONGEST => Ok(agreement),
+        Ok(_) => Err(Refusal {
+            fault: Fault::Surplus,
+            place: LONGEST,
+        }),
+    }
 }

@@ -1,10 +1,14 @@
 // What is answered to an input.
 ghost use mathlib.Core.Path.{_≡_};
 ghost use Rattle.std.specs.declared.option.Option.the-variants.{Some};
-ghost use Rattle.judge.specs.Answer.{answer-of, after-header, Settled, told};
+ghost use Rattle.agreement.specs.Meaning.{meaning};
+ghost use Rattle.agreement.specs.Reading.{begun};
+ghost use Rattle.judge.specs.Answer.{answer-of, judged, told};
+use agreement::Agreement;
 use agreement::Refusal;
 use agreement::RefusalDisplay;
-use agreement::read_header;
+use agreement::Step;
+use agreement::read;
 use std::fmt;
 
 #[derive(Clone, Copy)]
@@ -14,23 +18,21 @@ pub enum Answer {
     NotJudged,
 }
 
-// So far the header is checked, and an agreement that is over at once is judged.
 pub fn answer_to(bytes: &[u8]) -> Answer
-    ensures is { λ r. ⌜ r ≡ answer-of (now (bytes .entry)) ⌝ }
-    ensures settled { λ r. ⌜ Settled (now (bytes .entry)) r ⌝ }
+    ensures { λ r. ⌜ r ≡ answer-of (now (bytes .entry)) ⌝ }
 {
-    match read_header(bytes) {
+    match read(bytes) {
         Err(refusal) => Answer::Refused(refusal),
-        Ok(_) => after_header(bytes),
+        Ok(agreement) => judge(agreement),
     }
 }
 
-// The answer to bytes whose header is good.
-fn after_header(bytes: &[u8]) -> Answer
-    ensures { λ r. ⌜ r ≡ after-header (now (bytes .entry)) ⌝ }
+// So far only an agreement that is over at once is judged.
+fn judge(agreement: Agreement<'_>) -> Answer
+    ensures { λ r. ⌜ r ≡ judged (meaning (begun (agreement .entry))) ⌝ }
 {
-    match bytes {
-        [_, _, 0] => Answer::Clear,
+    match agreement.start().peek() {
+        Step::Over { .. } => Answer::Clear,
         _ => Answer::NotJudged,
     }
 }
@@ -58,31 +60,25 @@ mod tests {
     }
 
     #[test]
-    fn parties_are_1_to_8(rt: LibcRuntime) -> Result<(), Fail> {
-        says(rt.alloc(), &[0], "refused 1 at 0")?;
-        says(rt.alloc(), &[9, 9, 9], "refused 1 at 0")?;
-        says(rt.alloc(), &[255], "refused 1 at 0")?;
-        says(rt.alloc(), &[1, 0, 0], "clear")?;
-        says(rt.alloc(), &[8, 0, 0], "clear")
-    }
-
-    #[test]
-    fn slots_are_0_to_8(rt: LibcRuntime) -> Result<(), Fail> {
-        says(rt.alloc(), &[1, 9], "refused 2 at 1")?;
-        says(rt.alloc(), &[8, 255, 9], "refused 2 at 1")?;
-        says(rt.alloc(), &[1, 8, 0], "clear")
-    }
-
-    #[test]
-    fn input_may_end_early(rt: LibcRuntime) -> Result<(), Fail> {
+    fn what_is_turned_away(rt: LibcRuntime) -> Result<(), Fail> {
         says(rt.alloc(), &[], "refused 3 at 0")?;
-        says(rt.alloc(), &[8], "refused 3 at 1")?;
-        says(rt.alloc(), &[8, 8], "refused 3 at 2")
+        says(rt.alloc(), &[9, 9, 9], "refused 1 at 0")?;
+        says(rt.alloc(), &[1, 9], "refused 2 at 1")?;
+        says(rt.alloc(), &[1, 0, 0, 0], "refused 13 at 3")
     }
 
     #[test]
-    fn the_rest_is_not_judged_yet(rt: LibcRuntime) -> Result<(), Fail> {
-        says(rt.alloc(), &[1, 0, 1], "not judged yet")?;
-        says(rt.alloc(), &[1, 0, 0, 0], "not judged yet")
+    fn what_is_over_at_once(rt: LibcRuntime) -> Result<(), Fail> {
+        says(rt.alloc(), &[1, 0, 0], "clear")?;
+        says(rt.alloc(), &[8, 8, 0], "clear")
+    }
+
+    #[test]
+    fn what_is_not_judged_yet(rt: LibcRuntime) -> Result<(), Fail> {
+        says(
+            rt.alloc(),
+            &[1, 0, 1, 0, 0, 0, 0, 0, 0, 0],
+            "not judged yet",
+        )
     }
 }

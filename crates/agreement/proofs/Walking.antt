@@ -1,0 +1,63 @@
+-- Steps of the walk: through a waiting, and through its acts.
+use mathlib.Core.Path.{_≡_, refl, ap, _∙_}
+use mathlib.Core.Bool.{Bool, false}
+use mathlib.Core.List.{List, [], _∷_}
+use Prim.Native.Nat.{ℕ, zero, suc, _+_, _-_, _<_, _≤_}
+use native.Mathlib.Omega.{arith}
+use lib.ListN.{length, replicate}
+use Rattle.std.specs.declared.option.Option.the-variants.{Some}
+use Rattle.std.proofs.shelf.Tests.{le-leb, lt-ltb}
+use Rattle.agreement.specs.Checks.{Key, Walk, act, acts, surplus, thing, waiting, walk, walker, wrong}
+use Rattle.agreement.specs.Steps.{Acted, first}
+use Rattle.agreement.specs.declared.Fault.the-variants.{Surplus}
+use Rattle.agreement.specs.declared.Wrong.{Wrong}
+use Rattle.agreement.specs.declared.seen.Seen.{Seen}
+
+acts-more : (p q : ℕ) (next : Walk) (us : List Bool) (m : ℕ) (keys : List Key) (t : ℕ) (bs : List ℕ) (k : ℕ → List ℕ → List Wrong) → 0 < m →
+    acts p q next us m keys t bs k ≡ act p q us keys bs (λ vs x r. next vs t r (λ t₁ s. acts p q next us (m - 1) (x ∷ keys) t₁ s k))
+acts-more p q next us zero keys t bs k some = absurd (omega arith)
+acts-more p q next us (suc m) keys t bs k some = let e : suc m - 1 ≡ m = omega arith in rw e
+
+-- the head of the first act is wrong
+pub acts-head-wrong : (p q : ℕ) (next : Walk) (us : List Bool) (m : ℕ) (keys : List Key) (t : ℕ) (bs : List ℕ) (k : ℕ → List ℕ → List Wrong) (w : Wrong) → 0 < m →
+    ((g : List Bool → Key → List ℕ → List Wrong) → first (act p q us keys bs g) ≡ Some w) → first (acts p q next us m keys t bs k) ≡ Some w
+acts-head-wrong p q next us m keys t bs k w some wrong =
+    rw (acts-more p q next us m keys t bs k some) (wrong (λ vs x r. next vs t r (λ t₁ s. acts p q next us (m - 1) (x ∷ keys) t₁ s k)))
+
+-- the head of the first act was good
+pub acts-head : (p q : ℕ) (next : Walk) (us : List Bool) (m : ℕ) (keys : List Key) (t : ℕ) (bs : List ℕ) (k : ℕ → List ℕ → List Wrong) → 0 < m →
+    {after : Seen} {vs : List Bool} {rest : List ℕ} (acted : Acted p q us bs keys after vs rest) →
+    acts p q next us m keys t bs k ≡ next vs t rest (λ t₁ s. acts p q next us (m - 1) (acted .key ∷ keys) t₁ s k)
+acts-head p q next us m keys t bs k some acted =
+    acts-more p q next us m keys t bs k some ∙ acted .goes (λ vs x r. next vs t r (λ t₁ s. acts p q next us (m - 1) (x ∷ keys) t₁ s k))
+
+thing-three : (p q : ℕ) (us : List Bool) (d t : ℕ) (rest : List ℕ) (n : ℕ) (k : ℕ → List ℕ → List Wrong) → d ≤ 64 → t < 512 → 0 < n →
+    thing p q us d t (3 ∷ rest) n k ≡ waiting rest (λ m r. acts p q (walker p q (d + 1) (n - 1)) us m [] (t + 1) r (λ t₁ s. thing p q us (d + 1) t₁ s (n - 1) k))
+thing-three p q us d t rest zero k shallow few some = absurd (omega arith)
+thing-three p q us d t rest (suc n) k shallow few some =
+    let e : suc n - 1 ≡ n = omega arith in rw (e, le-leb d 64 shallow, lt-ltb t 512 few)
+
+-- the thing is a waiting whose head was good
+pub thing-awaits : (p q : ℕ) (us : List Bool) (d t : ℕ) {bs : List ℕ} {kind : ℕ} {rest : List ℕ} (n : ℕ) (k : ℕ → List ℕ → List Wrong) →
+    bs ≡ kind ∷ rest → kind ≡ 3 → d ≤ 64 → t < 512 → length bs ≤ n →
+    {m : ℕ} {r : List ℕ} → ((g : ℕ → List ℕ → List Wrong) → waiting rest g ≡ g m r) →
+    thing p q us d t bs n k ≡ acts p q (walker p q (d + 1) (n - 1)) us m [] (t + 1) r (λ t₁ s. thing p q us (d + 1) t₁ s (n - 1) k)
+thing-awaits p q us d t {bs = bs} {rest = rest} n k front three shallow few enough head =
+    let e : bs ≡ 3 ∷ rest = front ∙ ap (λ (b : ℕ). b ∷ rest) three in
+    let some : 0 < n = omega (arith, ap length e) in
+    rw e (thing-three p q us d t rest n k shallow few some ∙ head (λ m r. acts p q (walker p q (d + 1) (n - 1)) us m [] (t + 1) r (λ t₁ s. thing p q us (d + 1) t₁ s (n - 1) k)))
+
+-- the numbers of parties and slots are good
+pub walk-begins : {bs rest first : List ℕ} {p q : ℕ} → bs ≡ p ∷ rest → rest ≡ q ∷ first → 1 ≤ p → p ≤ 8 → q ≤ 8 →
+    walk bs ≡ thing p q (replicate 8 false) 1 0 first (length first) surplus
+walk-begins {bs = bs} {first = first} {p = p} {q = q} front behind some few few-slots =
+    let e : bs ≡ p ∷ q ∷ first = front ∙ ap (λ (r : List ℕ). p ∷ r) behind in
+    rw (e, lt-ltb p 256 (omega arith), lt-ltb q 256 (omega arith), le-leb 1 p some, le-leb p 8 few, le-leb q 8 few-slots)
+
+pub surplus-none : (t : ℕ) (bs : List ℕ) → length bs ≡ 0 → surplus t bs ≡ []
+surplus-none t [] e = refl
+surplus-none t (b ∷ bs) e = absurd (omega arith)
+
+pub surplus-some : (t : ℕ) (bs : List ℕ) → 0 < length bs → surplus t bs ≡ wrong Surplus (length bs) ∷ []
+surplus-some t [] h = absurd (omega arith)
+surplus-some t (b ∷ bs) h = refl
