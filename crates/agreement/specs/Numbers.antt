@@ -1,7 +1,8 @@
 -- What readers of numbers and amounts answer. Assumes nothing: these are definitions.
 use mathlib.Core.Path.{_≡_}
-use mathlib.Core.List.{List, []}
+use mathlib.Core.List.{List, [], _∷_}
 use Prim.Native.Nat.{ℕ}
+use lib.ListN.{length}
 use denote.Ref.{RefT, now}
 use Rattle.std.specs.declared.option.Option.{Option}
 use Rattle.std.specs.declared.option.Option.the-variants.{Some, None}
@@ -19,6 +20,11 @@ goes (Some x) bad k = k (x .0) (now (x .1))
 pub record Reads {X : Type 0} (r : Option (X × RefT (List ℕ))) (bs : List ℕ) (reader : (R : Type 0) → List ℕ → R → (X → List ℕ → R) → R) : Type 0 where
   pub looks : (k : X → List ℕ → Look) → reader Look bs (ends []) k ≡ goes r (ends []) k
   pub acts : (k : X → List ℕ → Act) → reader Act bs (no-more []) k ≡ goes r (no-more []) k
+
+-- the first byte and those behind it; else there is none
+abbrev pub Front : List ℕ → Option (ℕ × RefT (List ℕ)) → Type 0
+Front bs None = length bs ≡ 0
+Front bs (Some x) = bs ≡ x .0 ∷ now (x .1)
 
 -- P of what was read, if anything was
 abbrev pub Given : {X : Type 0} → Option X → (X → Type 0) → Type 0

@@ -13,8 +13,8 @@ use crate::DEEPEST;
 use crate::Fault;
 use crate::Refusal;
 use crate::Wrong;
+use crate::numbers::read_byte;
 use crate::seen::Seen;
-use crate::steps::read_byte;
 use crate::steps::read_deposit;
 use crate::steps::read_fork;
 use crate::steps::read_payment;
@@ -39,7 +39,9 @@ fn read_act<'a>(bytes: &'a [u8], way: &Way, seen: &mut Seen) -> Result<([bool; 8
     ensures goes { λ r. ⌜ ((keys : List Key) → Keeps (now (seen .entry)) keys → Acts-on (now (way .entry) .parties) (now (way .entry) .slots) (now (way .entry) .used) (now (bytes .entry)) keys (now (seen .exit)) r) ⌝ }
     ensures shorter { λ r. ⌜ made r (λ x. length (now (x .1)) < length (now (bytes .entry))) ⌝ }
 {
-    let (kind, rest) = read_byte(bytes)?;
+    let Some((kind, rest)) = read_byte(bytes) else {
+        return Err(Fault::Cut.with(0));
+    };
     match kind {
         1 => {
             if seen.has_deposit(bytes) {
@@ -107,17 +109,17 @@ fn read_thing<'a>(bytes: &'a [u8], way: &Way, depth: u8, things: u16) -> Result<
     ensures goes { λ r. ⌜ ((n : ℕ) → length (now (bytes .entry)) ≤ n → (k : ℕ → List ℕ → List Failed) → Goes r (thing (now (way .entry) .parties) (now (way .entry) .slots) (now (way .entry) .used) depth things (now (bytes .entry)) n k) (λ x. k (x .things) (now (x .rest)))) ⌝ }
     ensures shorter { λ r. ⌜ made r (λ x. length (now (x .rest)) < length (now (bytes .entry))) ⌝ }
 {
-    let Some((kind, rest)) = bytes.split_first() else {
+    let Some((kind, rest)) = read_byte(bytes) else {
         return Err(Fault::Cut.with(0));
     };
-    if *kind > 3 {
+    if kind > 3 {
         return Err(Fault::Kind.with(bytes.len()));
     }
     if depth > DEEPEST || things >= MOST_THINGS {
         return Err(Fault::TooLarge.with(bytes.len()));
     }
     let things = things + 1;
-    match *kind {
+    match kind {
         0 => Ok(Ahead { things, rest }),
         1 => {
             let rest = read_payment(rest, way.parties, way.slots)?;
@@ -140,11 +142,15 @@ fn read_thing<'a>(bytes: &'a [u8], way: &Way, depth: u8, things: u16) -> Result<
 fn read_whole(bytes: &[u8]) -> Result<Agreement<'_>, Wrong>
     ensures { λ r. ⌜ Whole (now (bytes .entry)) r ⌝ }
 {
-    let (parties, rest) = read_byte(bytes)?;
+    let Some((parties, rest)) = read_byte(bytes) else {
+        return Err(Fault::Cut.with(0));
+    };
     if parties < 1 || parties > 8 {
         return Err(Fault::Parties.with(bytes.len()));
     }
-    let (slots, first) = read_byte(rest)?;
+    let Some((slots, first)) = read_byte(rest) else {
+        return Err(Fault::Cut.with(0));
+    };
     if slots > 8 {
         return Err(Fault::Slots.with(rest.len()));
     }

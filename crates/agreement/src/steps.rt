@@ -4,12 +4,14 @@ ghost use mathlib.Core.List.{List, _∷_};
 ghost use Prim.Native.Nat.{ℕ, _<_, _≤_};
 ghost use lib.ListN.{length};
 ghost use Rattle.std.specs.Vec.{made};
-ghost use Rattle.agreement.specs.Bytes as numbers;
 ghost use Rattle.agreement.specs.Checks as checks;
 ghost use Rattle.agreement.specs.Steps.{Goes};
 ghost use Rattle.agreement.specs.declared.Wrong.{Wrong as Failed};
 use crate::Fault;
 use crate::Wrong;
+use crate::numbers::read_byte;
+use crate::numbers::read_half;
+use crate::numbers::read_word;
 
 impl Fault {
     // The failed check, with so many bytes left.
@@ -20,52 +22,31 @@ impl Fault {
     }
 }
 
-pub(crate) fn read_byte(bytes: &[u8]) -> Result<(u8, &[u8]), Wrong>
-    ensures goes { λ r. ⌜ ((k : ℕ → List ℕ → List Failed) → Goes r (numbers.byte (now (bytes .entry)) checks.cut k) (λ x. k (x .0) (now (x .1)))) ⌝ }
-    ensures shorter { λ r. ⌜ made r (λ x. length (now (x .1)) < length (now (bytes .entry))) ⌝ }
-    ensures front { λ r. ⌜ made r (λ x. now (bytes .entry) ≡ x .0 ∷ now (x .1)) ⌝ }
-{
-    let Some((byte, rest)) = bytes.split_first() else {
-        return Err(Fault::Cut.with(0));
-    };
-    Ok((*byte, rest))
-}
-
-// A number of two bytes.
-pub(crate) fn read_half(bytes: &[u8]) -> Result<(u16, &[u8]), Wrong>
-    ensures goes { λ r. ⌜ ((k : ℕ → List ℕ → List Failed) → Goes r (numbers.half (now (bytes .entry)) checks.cut k) (λ x. k (x .0) (now (x .1)))) ⌝ }
-    ensures shorter { λ r. ⌜ made r (λ x. length (now (x .1)) < length (now (bytes .entry))) ⌝ }
-{
-    let (a, rest) = read_byte(bytes)?;
-    let (b, rest) = read_byte(rest)?;
-    Ok((a as u16 + b as u16 * 256, rest))
-}
-
 pub(crate) fn read_party(bytes: &[u8], parties: u8) -> Result<(u8, &[u8]), Wrong>
     ensures goes { λ r. ⌜ ((k : ℕ → List ℕ → List Failed) → Goes r (checks.party parties (now (bytes .entry)) k) (λ x. k (x .0) (now (x .1)))) ⌝ }
     ensures shorter { λ r. ⌜ made r (λ x. length (now (x .1)) < length (now (bytes .entry))) ⌝ }
     ensures within { λ r. ⌜ made r (λ x. x .0 < parties) ⌝ }
 {
-    let Some((party, rest)) = bytes.split_first() else {
+    let Some((party, rest)) = read_byte(bytes) else {
         return Err(Fault::Cut.with(0));
     };
-    if *party >= parties {
+    if party >= parties {
         return Err(Fault::Party.with(bytes.len()));
     }
-    Ok((*party, rest))
+    Ok((party, rest))
 }
 
 pub(crate) fn read_slot(bytes: &[u8], slots: u8) -> Result<(u8, &[u8]), Wrong>
     ensures goes { λ r. ⌜ ((k : ℕ → List ℕ → List Failed) → Goes r (checks.slot slots (now (bytes .entry)) k) (λ x. k (x .0) (now (x .1)))) ⌝ }
     ensures shorter { λ r. ⌜ made r (λ x. length (now (x .1)) < length (now (bytes .entry))) ⌝ }
 {
-    let Some((slot, rest)) = bytes.split_first() else {
+    let Some((slot, rest)) = read_byte(bytes) else {
         return Err(Fault::Cut.with(0));
     };
-    if *slot >= slots {
+    if slot >= slots {
         return Err(Fault::Slot.with(bytes.len()));
     }
-    Ok((*slot, rest))
+    Ok((slot, rest))
 }
 
 // A slot to be set: on this way it was not set before.
@@ -79,28 +60,16 @@ pub(crate) fn read_fresh<'a>(
     ensures shorter { λ r. ⌜ made r (λ x. length (now (x .1)) < length (now (bytes .entry))) ⌝ }
     ensures within { λ r. ⌜ made r (λ x. x .0 < slots) ⌝ }
 {
-    let Some((slot, rest)) = bytes.split_first() else {
+    let Some((slot, rest)) = read_byte(bytes) else {
         return Err(Fault::Cut.with(0));
     };
-    if *slot >= slots {
+    if slot >= slots {
         return Err(Fault::Slot.with(bytes.len()));
     }
-    if used[*slot as usize] {
+    if used[slot as usize] {
         return Err(Fault::SetTwice.with(bytes.len()));
     }
-    Ok((*slot, rest))
-}
-
-// A number of four bytes.
-pub(crate) fn read_word(bytes: &[u8]) -> Result<(u32, &[u8]), Wrong>
-    ensures goes { λ r. ⌜ ((k : ℕ → List ℕ → List Failed) → Goes r (numbers.word (now (bytes .entry)) checks.cut k) (λ x. k (x .0) (now (x .1)))) ⌝ }
-    ensures shorter { λ r. ⌜ made r (λ x. length (now (x .1)) < length (now (bytes .entry))) ⌝ }
-{
-    let (a, rest) = read_byte(bytes)?;
-    let (b, rest) = read_byte(rest)?;
-    let (c, rest) = read_byte(rest)?;
-    let (d, rest) = read_byte(rest)?;
-    Ok((u32::from_le_bytes([a, b, c, d]), rest))
+    Ok((slot, rest))
 }
 
 // The value of a slot, or what it is compared with.
@@ -108,7 +77,9 @@ pub(crate) fn read_value(bytes: &[u8]) -> Result<(u32, &[u8]), Wrong>
     ensures goes { λ r. ⌜ ((k : ℕ → List ℕ → List Failed) → Goes r (checks.value (now (bytes .entry)) k) (λ x. k (x .0) (now (x .1)))) ⌝ }
     ensures shorter { λ r. ⌜ made r (λ x. length (now (x .1)) < length (now (bytes .entry))) ⌝ }
 {
-    let (value, rest) = read_word(bytes)?;
+    let Some((value, rest)) = read_word(bytes) else {
+        return Err(Fault::Cut.with(0));
+    };
     if value > 1_000_000 {
         return Err(Fault::Value.with(bytes.len()));
     }
@@ -120,7 +91,9 @@ pub(crate) fn read_high(bytes: &[u8], low: u32) -> Result<&[u8], Wrong>
     ensures goes { λ r. ⌜ ((k : List ℕ → List Failed) → Goes r (checks.high low (now (bytes .entry)) k) (λ x. k (now x))) ⌝ }
     ensures shorter { λ r. ⌜ made r (λ x. length (now x) < length (now (bytes .entry))) ⌝ }
 {
-    let (high, rest) = read_word(bytes)?;
+    let Some((high, rest)) = read_word(bytes) else {
+        return Err(Fault::Cut.with(0));
+    };
     if high > 1_000_000 || high < low {
         return Err(Fault::Value.with(bytes.len()));
     }
@@ -132,7 +105,9 @@ pub(crate) fn read_rate(bytes: &[u8]) -> Result<&[u8], Wrong>
     ensures goes { λ r. ⌜ ((k : List ℕ → List Failed) → Goes r (checks.rate (now (bytes .entry)) k) (λ x. k (now x))) ⌝ }
     ensures shorter { λ r. ⌜ made r (λ x. length (now x) < length (now (bytes .entry))) ⌝ }
 {
-    let (cents, rest) = read_half(bytes)?;
+    let Some((cents, rest)) = read_half(bytes) else {
+        return Err(Fault::Cut.with(0));
+    };
     if cents > 1_000 {
         return Err(Fault::Cents.with(bytes.len()));
     }
@@ -154,7 +129,9 @@ pub(crate) fn read_amount(bytes: &[u8], slots: u8) -> Result<&[u8], Wrong>
     ensures goes { λ r. ⌜ ((k : List ℕ → List Failed) → Goes r (checks.amount slots (now (bytes .entry)) k) (λ x. k (now x))) ⌝ }
     ensures shorter { λ r. ⌜ made r (λ x. length (now x) < length (now (bytes .entry))) ⌝ }
 {
-    let (base, rest) = read_word(bytes)?;
+    let Some((base, rest)) = read_word(bytes) else {
+        return Err(Fault::Cut.with(0));
+    };
     if base > 1_000_000_000 {
         return Err(Fault::Cents.with(bytes.len()));
     }
@@ -186,8 +163,12 @@ pub(crate) fn read_waiting(bytes: &[u8]) -> Result<(u8, &[u8]), Wrong>
     ensures goes { λ r. ⌜ ((k : ℕ → List ℕ → List Failed) → Goes r (checks.waiting (now (bytes .entry)) k) (λ x. k (x .0) (now (x .1)))) ⌝ }
     ensures shorter { λ r. ⌜ made r (λ x. length (now (x .1)) < length (now (bytes .entry))) ⌝ }
 {
-    let (_, rest) = read_half(bytes)?;
-    let (count, behind) = read_byte(rest)?;
+    let Some((_, rest)) = read_half(bytes) else {
+        return Err(Fault::Cut.with(0));
+    };
+    let Some((count, behind)) = read_byte(rest) else {
+        return Err(Fault::Cut.with(0));
+    };
     if count < 1 || count > 16 {
         return Err(Fault::ActCount.with(rest.len()));
     }

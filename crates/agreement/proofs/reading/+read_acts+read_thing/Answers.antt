@@ -59,12 +59,12 @@ pub read-thing-returns-in-Break-ahead-2 : need.read-thing-returns-in-Break-ahead
 read-thing-returns-in-Break-ahead-2 t c =
     let p = err-from-errBy (c .from-residual-in-Break-ahead-2 .result) (c .from-residual-in-Break-ahead-2 .ensures .1) in
     let way = c .args .way .now in
-    let front = c .in-Some .ensures tt .cases .0 in
+    let front = c .in-Some .ensures tt .front in
     let head = c .in-Continue-count .ensures tt in
-    let three : c .in-Some .kind .now ≡ 3 = omega (arith, c .in-rest-kind) in
+    let three : c .in-Some .kind ≡ 3 = omega (arith, c .in-rest-kind) in
     rw (p .1, p .2) (record {
       goes = λ n h k.
-          let enough : length (c .in-Continue-count .rest .now) ≤ n - 1 = omega (arith, head .shorter, c .in-Some .ensures tt .cases .1) in
+          let enough : length (c .in-Continue-count .rest .now) ≤ n - 1 = omega (arith, head .shorter, c .in-Some .ensures tt .shorter) in
           rw (thing-awaits (way .parties) (way .slots) (way .used) (c .args .depth) (c .args .things) n k front three (omega arith) (omega arith) h (head .goes))
           (c .in-Break-ahead-2 .ensures tt .goes (n - 1) enough [] (c .none .ensures) (λ t₁ s. thing (way .parties) (way .slots) (way .used) (c .args .depth + 1) t₁ s (n - 1) k));
       shorter = tt;
@@ -73,13 +73,13 @@ read-thing-returns-in-Break-ahead-2 t c =
 pub read-thing-returns-in-Continue-ahead-2 : need.read-thing-returns-in-Continue-ahead-2
 read-thing-returns-in-Continue-ahead-2 t c =
     let way = c .args .way .now in
-    let front = c .in-Some .ensures tt .cases .0 in
+    let front = c .in-Some .ensures tt .front in
     let head = c .in-Continue-count .ensures tt in
     let inner = c .in-Continue-ahead-2 .ensures tt in
-    let three : c .in-Some .kind .now ≡ 3 = omega (arith, c .in-rest-kind) in
+    let three : c .in-Some .kind ≡ 3 = omega (arith, c .in-rest-kind) in
     record {
       goes = λ n h k.
-          let enough : length (c .in-Continue-count .rest .now) ≤ n - 1 = omega (arith, head .shorter, c .in-Some .ensures tt .cases .1) in
+          let enough : length (c .in-Continue-count .rest .now) ≤ n - 1 = omega (arith, head .shorter, c .in-Some .ensures tt .shorter) in
           let enough-behind : length (c .in-Continue-ahead-2 .ahead .rest .now) ≤ n - 1 = omega (arith, inner .shorter) in
           rw (
             thing-awaits (way .parties) (way .slots) (way .used) (c .args .depth) (c .args .things) n k front three (omega arith) (omega arith) h (head .goes),

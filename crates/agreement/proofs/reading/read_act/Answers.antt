@@ -8,16 +8,16 @@ pub returns-then-has-deposit : need.returns-then-has-deposit
 returns-then-has-deposit c =
     record {
       goes = λ keys kept k.
-          rw (act-deposit (c .args .way .now .parties) (c .args .way .now .slots) (c .args .way .now .used) keys (c .args .bytes .now) (c .in-Continue-kind .ensures tt .front) (c .in-1 .is) (c .has-deposit .ensures keys kept) k, c .if-has-deposit .taken) (search needs);
+          rw (act-deposit (c .args .way .now .parties) (c .args .way .now .slots) (c .args .way .now .used) keys (c .args .bytes .now) (c .in-Some .ensures tt .front) (c .in-1 .is) (c .has-deposit .ensures keys kept) k, c .if-has-deposit .taken) (search needs);
       shorter = tt;
     }
 
 pub returns-in-Break-party : need.returns-in-Break-party
 returns-in-Break-party c =
-    let p = err-from-errBy (c .from-residual-in-Break-party .result) (c .from-residual-in-Break-party .ensures .1) in
+    let p = err-from-errBy (c .from-residual .result) (c .from-residual .ensures .1) in
     rw (p .1, p .2) (record {
       goes = λ keys kept k.
-          rw (act-deposit (c .args .way .now .parties) (c .args .way .now .slots) (c .args .way .now .used) keys (c .args .bytes .now) (c .in-Continue-kind .ensures tt .front) (c .in-1 .is) (c .has-deposit .ensures keys kept) k, c .if-has-deposit .left)
+          rw (act-deposit (c .args .way .now .parties) (c .args .way .now .slots) (c .args .way .now .used) keys (c .args .bytes .now) (c .in-Some .ensures tt .front) (c .in-1 .is) (c .has-deposit .ensures keys kept) k, c .if-has-deposit .left)
           (c .in-Break-party .ensures tt .goes _);
       shorter = tt;
     })
@@ -31,7 +31,7 @@ returns-in-Continue-party c =
             key = _;
             kept = c .add-deposit .ensures keys kept;
             goes = λ k.
-                rw (act-deposit (c .args .way .now .parties) (c .args .way .now .slots) (c .args .way .now .used) keys (c .args .bytes .now) (c .in-Continue-kind .ensures tt .front) (c .in-1 .is) (c .has-deposit .ensures keys kept) k, c .if-has-deposit .left)
+                rw (act-deposit (c .args .way .now .parties) (c .args .way .now .slots) (c .args .way .now .used) keys (c .args .bytes .now) (c .in-Some .ensures tt .front) (c .in-1 .is) (c .has-deposit .ensures keys kept) k, c .if-has-deposit .left)
                 (read .goes _);
           };
       shorter = search needs;
@@ -41,7 +41,7 @@ pub returns-then-has-setting : need.returns-then-has-setting
 returns-then-has-setting c =
     record {
       goes = λ keys kept k.
-          rw (act-setting (c .args .way .now .parties) (c .args .way .now .slots) (c .args .way .now .used) keys (c .args .bytes .now) (c .in-Continue-kind .ensures tt .front) (c .in-2 .is) (c .has-setting .ensures keys kept) k, c .if-has-setting .taken) (search needs);
+          rw (act-setting (c .args .way .now .parties) (c .args .way .now .slots) (c .args .way .now .used) keys (c .args .bytes .now) (c .in-Some .ensures tt .front) (c .in-2 .is) (c .has-setting .ensures keys kept) k, c .if-has-setting .taken) (search needs);
       shorter = tt;
     }
 
@@ -50,7 +50,7 @@ returns-in-Break-party-2 c =
     let p = err-from-errBy (c .from-residual-in-Break-party-2 .result) (c .from-residual-in-Break-party-2 .ensures .1) in
     rw (p .1, p .2) (record {
       goes = λ keys kept k.
-          rw (act-setting (c .args .way .now .parties) (c .args .way .now .slots) (c .args .way .now .used) keys (c .args .bytes .now) (c .in-Continue-kind .ensures tt .front) (c .in-2 .is) (c .has-setting .ensures keys kept) k, c .if-has-setting .left)
+          rw (act-setting (c .args .way .now .parties) (c .args .way .now .slots) (c .args .way .now .used) keys (c .args .bytes .now) (c .in-Some .ensures tt .front) (c .in-2 .is) (c .has-setting .ensures keys kept) k, c .if-has-setting .left)
           (c .in-Break-party-2 .ensures tt .goes _);
       shorter = tt;
     })
@@ -64,7 +64,7 @@ returns-in-Continue-party-2 c =
             key = _;
             kept = c .add-setting .ensures keys kept;
             goes = λ k.
-                rw (act-setting (c .args .way .now .parties) (c .args .way .now .slots) (c .args .way .now .used) keys (c .args .bytes .now) (c .in-Continue-kind .ensures tt .front) (c .in-2 .is) (c .has-setting .ensures keys kept) k, c .if-has-setting .left)
+                rw (act-setting (c .args .way .now .parties) (c .args .way .now .slots) (c .args .way .now .used) keys (c .args .bytes .now) (c .in-Some .ensures tt .front) (c .in-2 .is) (c .has-setting .ensures keys kept) k, c .if-has-setting .left)
                 (read .goes _);
           };
       shorter = search needs;

@@ -12,22 +12,22 @@ use Rattle.agreement.proofs.reading.read_whole.Needs as need
 
 pub returns-in-Break-ahead : need.returns-in-Break-ahead
 returns-in-Break-ahead c =
-    let p = err-from-errBy (c .from-residual-in-Break-ahead .result) (c .from-residual-in-Break-ahead .ensures .1) in
-    let begun = walk-begins (c .in-Continue-parties .ensures tt .front) (c .in-Continue-slots .ensures tt .front) (omega arith) (omega arith) (omega arith) in
-    rw (p .1, p .2, begun) (c .in-Break-ahead .ensures tt .goes (length (c .in-Continue-slots .first .now)) (omega arith) surplus)
+    let p = err-from-errBy (c .from-residual .result) (c .from-residual .ensures .1) in
+    let begun = walk-begins (c .in-Some .ensures tt .front) (c .in-Some-read-byte .ensures tt .front) (omega arith) (omega arith) (omega arith) in
+    rw (p .1, p .2, begun) (c .in-Break-ahead .ensures tt .goes (length (c .in-Some-read-byte .first .now)) (omega arith) surplus)
 
 pub returns-then-not-is-empty : need.returns-then-not-is-empty
 returns-then-not-is-empty c =
-    let begun = walk-begins (c .in-Continue-parties .ensures tt .front) (c .in-Continue-slots .ensures tt .front) (omega arith) (omega arith) (omega arith) in
-    let read = c .in-Continue-ahead .ensures tt .goes (length (c .in-Continue-slots .first .now)) (omega arith) surplus in
+    let begun = walk-begins (c .in-Some .ensures tt .front) (c .in-Some-read-byte .ensures tt .front) (omega arith) (omega arith) (omega arith) in
+    let read = c .in-Continue-ahead .ensures tt .goes (length (c .in-Some-read-byte .first .now)) (omega arith) surplus in
     let some : 0 < length (c .in-Continue-ahead .ahead .rest .now) = search needs in
     rw (begun, read, surplus-some (c .in-Continue-ahead .ahead .things) (c .in-Continue-ahead .ahead .rest .now) some) (search needs)
 
 pub returns : need.returns
 returns c =
-    let begun = walk-begins (c .in-Continue-parties .ensures tt .front) (c .in-Continue-slots .ensures tt .front) (omega arith) (omega arith) (omega arith) in
-    let read = c .in-Continue-ahead .ensures tt .goes (length (c .in-Continue-slots .first .now)) (omega arith) surplus in
+    let begun = walk-begins (c .in-Some .ensures tt .front) (c .in-Some-read-byte .ensures tt .front) (omega arith) (omega arith) (omega arith) in
+    let read = c .in-Continue-ahead .ensures tt .goes (length (c .in-Some-read-byte .first .now)) (omega arith) surplus in
     let empty : length (c .in-Continue-ahead .ahead .rest .now) ≡ 0 = search needs in (
       begun ∙ (read ∙ surplus-none (c .in-Continue-ahead .ahead .things) (c .in-Continue-ahead .ahead .rest .now) empty),
-      c .in-Continue-parties .ensures tt .front ∙ ap (λ (r : List ℕ). c .in-Continue-parties .parties ∷ r) (c .in-Continue-slots .ensures tt .front),
+      c .in-Some .ensures tt .front ∙ ap (λ (r : List ℕ). c .in-Some .parties ∷ r) (c .in-Some-read-byte .ensures tt .front),
     )
