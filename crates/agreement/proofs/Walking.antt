@@ -7,7 +7,7 @@ use native.Mathlib.Omega.{arith}
 use lib.ListN.{length, replicate}
 use Rattle.std.specs.declared.option.Option.the-variants.{Some}
 use Rattle.std.proofs.shelf.Tests.{le-leb, lt-ltb}
-use Rattle.agreement.specs.Checks.{Key, Walk, act, acts, surplus, thing, waiting, walk, walker, wrong}
+use Rattle.agreement.specs.Checks.{Key, Walk, act, acts, follow, surplus, thing, walk, walker, wrong}
 use Rattle.agreement.specs.Steps.{Acted, first}
 use Rattle.agreement.specs.declared.Fault.the-variants.{Surplus}
 use Rattle.agreement.specs.declared.Wrong.{Wrong}
@@ -31,21 +31,13 @@ pub acts-head : (p q : ℕ) (next : Walk) (us : List Bool) (m : ℕ) (keys : Lis
 acts-head p q next us m keys t bs k some acted =
     acts-more p q next us m keys t bs k some ∙ acted .goes (λ vs x r. next vs t r (λ t₁ s. acts p q next us (m - 1) (x ∷ keys) t₁ s k))
 
-thing-three : (p q : ℕ) (us : List Bool) (d t : ℕ) (rest : List ℕ) (n : ℕ) (k : ℕ → List ℕ → List Wrong) → d ≤ 64 → t < 512 → 0 < n →
-    thing p q us d t (3 ∷ rest) n k ≡ waiting rest (λ m r. acts p q (walker p q (d + 1) (n - 1)) us m [] (t + 1) r (λ t₁ s. thing p q us (d + 1) t₁ s (n - 1) k))
-thing-three p q us d t rest zero k shallow few some = absurd (omega arith)
-thing-three p q us d t rest (suc n) k shallow few some =
-    let e : suc n - 1 ≡ n = omega arith in rw (e, le-leb d 64 shallow, lt-ltb t 512 few)
-
--- the thing is a waiting whose head was good
-pub thing-awaits : (p q : ℕ) (us : List Bool) (d t : ℕ) {bs : List ℕ} {kind : ℕ} {rest : List ℕ} (n : ℕ) (k : ℕ → List ℕ → List Wrong) →
-    bs ≡ kind ∷ rest → kind ≡ 3 → d ≤ 64 → t < 512 → length bs ≤ n →
-    {m : ℕ} {r : List ℕ} → ((g : ℕ → List ℕ → List Wrong) → waiting rest g ≡ g m r) →
-    thing p q us d t bs n k ≡ acts p q (walker p q (d + 1) (n - 1)) us m [] (t + 1) r (λ t₁ s. thing p q us (d + 1) t₁ s (n - 1) k)
-thing-awaits p q us d t {bs = bs} {rest = rest} n k front three shallow few enough head =
-    let e : bs ≡ 3 ∷ rest = front ∙ ap (λ (b : ℕ). b ∷ rest) three in
-    let some : 0 < n = omega (arith, ap length e) in
-    rw e (thing-three p q us d t rest n k shallow few some ∙ head (λ m r. acts p q (walker p q (d + 1) (n - 1)) us m [] (t + 1) r (λ t₁ s. thing p q us (d + 1) t₁ s (n - 1) k)))
+-- behind the kind of a thing that is not too much
+pub thing-follow : (p q : ℕ) (us : List Bool) (d t : ℕ) {bs : List ℕ} {kind : ℕ} {rest : List ℕ} (n : ℕ) (k : ℕ → List ℕ → List Wrong) →
+    bs ≡ kind ∷ rest → kind ≤ 3 → d ≤ 64 → t < 512 → length bs ≤ n →
+    thing p q us d t bs n k ≡ follow p q (walker p q (d + 1) (n - 1)) us kind (t + 1) rest k
+thing-follow p q us d t zero k front known shallow few enough = absurd (omega (arith, ap length front))
+thing-follow p q us d t {kind = kind} (suc n) k front known shallow few enough =
+    let e : suc n - 1 ≡ n = omega arith in rw (e, front, lt-ltb kind 4 (omega arith), le-leb d 64 shallow, lt-ltb t 512 few)
 
 -- the numbers of parties and slots are good
 pub walk-begins : {bs rest first : List ℕ} {p q : ℕ} → bs ≡ p ∷ rest → rest ≡ q ∷ first → 1 ≤ p → p ≤ 8 → q ≤ 8 →

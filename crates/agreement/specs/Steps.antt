@@ -10,11 +10,13 @@ use Rattle.std.specs.declared.option.Option.the-variants.{Some, None}
 use Rattle.std.specs.declared.result.Result.{Result}
 use Rattle.std.specs.declared.result.Result.the-variants.{Ok, Err}
 use denote.Ref.{RefT, now}
-use Rattle.agreement.specs.Checks.{Key, among, act, walk}
+use Rattle.agreement.specs.Checks.{Key, Walk, among, act, acts, walk}
 use Rattle.agreement.specs.declared.Agreement.{Agreement}
 use Rattle.agreement.specs.declared.Fault.the-variants.{Surplus}
 use Rattle.agreement.specs.declared.Refusal.{Refusal}
 use Rattle.agreement.specs.declared.Wrong.{Wrong}
+use Rattle.agreement.specs.declared.reading.Head.{Head}
+use Rattle.agreement.specs.declared.reading.Head.the-variants.{Over, Pay, Fork, Wait}
 use Rattle.agreement.specs.declared.seen.Seen.{Seen}
 
 abbrev pub first : List Wrong → Option Wrong
@@ -26,6 +28,13 @@ first (w ∷ ws) = Some w
 abbrev pub Goes : {X : Type 0} → Result X Wrong → List Wrong → (X → List Wrong) → Type 0
 Goes (Ok x) ws k = ws ≡ k x
 Goes (Err w) ws k = first ws ≡ Some w
+
+-- what the walk does behind the head of a thing
+abbrev pub onward : ℕ → ℕ → Walk → List Bool → Head → ℕ → List ℕ → (ℕ → List ℕ → List Wrong) → List Wrong
+onward p q next us Over t r k = k t r
+onward p q next us Pay t r k = next us t r k
+onward p q next us Fork t r k = next us t r (λ t₁ s. next us t₁ s k)
+onward p q next us (Wait m) t r k = acts p q next us m [] t r (λ t₁ s. next us t₁ s k)
 
 -- eight marks for each of eight parties
 abbrev pub marked : List Bool → ℕ → ℕ → Bool

@@ -1,12 +1,13 @@
 // Reading an agreement: a thing and a waiting's acts are read by two functions that call each other.
 ghost use mathlib.Core.Path.{_≡_};
+ghost use mathlib.Core.Bool.{Bool};
 ghost use mathlib.Core.List.{List};
-ghost use Prim.Native.Nat.{ℕ, _<_, _≤_};
+ghost use Prim.Native.Nat.{ℕ, _+_, _-_, _<_, _≤_};
 ghost use lib.ListN.{length};
 ghost use Rattle.std.specs.Vec.{made};
 ghost use Rattle.agreement.specs.Checks.{Key, acts, thing, walker};
 ghost use Rattle.agreement.specs.Reading.{First, Taking, answered, reading};
-ghost use Rattle.agreement.specs.Steps.{Goes, Keeps, Acts-on, Whole, counted};
+ghost use Rattle.agreement.specs.Steps.{Goes, Keeps, Acts-on, Whole, counted, onward};
 ghost use Rattle.agreement.specs.declared.Wrong.{Wrong as Failed};
 use crate::Agreement;
 use crate::DEEPEST;
@@ -65,49 +66,25 @@ fn read_act<'a>(bytes: &'a [u8], way: &Way, seen: &mut Seen) -> Result<([bool; 8
     }
 }
 
-// How far reading has come: so many things, and the bytes still to be read.
+// What one of the four things is; of a waiting, the number of its acts.
 #[derive(Clone, Copy)]
-struct Ahead<'a> {
-    things: u16,
-    rest: &'a [u8],
+pub(crate) enum Head {
+    Over,
+    Pay,
+    Fork,
+    Wait { count: u8 },
 }
 
-// So many acts. `depth` is how deep their continuations are.
-fn read_acts<'a>(
+// What a thing has before its parts. `things` is how many came before it.
+fn read_head<'a>(
     bytes: &'a [u8],
     way: &Way,
     depth: u8,
-    count: u8,
     things: u16,
-    seen: &mut Seen,
-) -> Result<Ahead<'a>, Wrong>
-    requires few_parties { ⌜ now way .parties ≤ 8 ⌝ }
-    requires few_slots { ⌜ now way .slots ≤ 8 ⌝ }
-    ensures goes { λ r. ⌜ ((n : ℕ) → length (now (bytes .entry)) ≤ n → (keys : List Key) → Keeps (now (seen .entry)) keys → (k : ℕ → List ℕ → List Failed) → Goes r (acts (now (way .entry) .parties) (now (way .entry) .slots) (walker (now (way .entry) .parties) (now (way .entry) .slots) depth n) (now (way .entry) .used) count keys things (now (bytes .entry)) k) (λ x. k (x .things) (now (x .rest)))) ⌝ }
-    ensures shorter { λ r. ⌜ made r (λ x. length (now (x .rest)) ≤ length (now (bytes .entry))) ⌝ }
-{
-    if count == 0 {
-        return Ok(Ahead {
-            things,
-            rest: bytes,
-        });
-    }
-    let (used, rest) = read_act(bytes, way, seen)?;
-    let inner = Way {
-        parties: way.parties,
-        slots: way.slots,
-        used,
-    };
-    let ahead = read_thing(rest, &inner, depth, things)?;
-    read_acts(ahead.rest, way, depth, count - 1, ahead.things, seen)
-}
-
-// One of the four things.
-fn read_thing<'a>(bytes: &'a [u8], way: &Way, depth: u8, things: u16) -> Result<Ahead<'a>, Wrong>
-    requires few_parties { ⌜ now way .parties ≤ 8 ⌝ }
-    requires few_slots { ⌜ now way .slots ≤ 8 ⌝ }
-    ensures goes { λ r. ⌜ ((n : ℕ) → length (now (bytes .entry)) ≤ n → (k : ℕ → List ℕ → List Failed) → Goes r (thing (now (way .entry) .parties) (now (way .entry) .slots) (now (way .entry) .used) depth things (now (bytes .entry)) n k) (λ x. k (x .things) (now (x .rest)))) ⌝ }
-    ensures shorter { λ r. ⌜ made r (λ x. length (now (x .rest)) < length (now (bytes .entry))) ⌝ }
+) -> Result<(Head, &'a [u8]), Wrong>
+    ensures goes { λ r. ⌜ ((us : List Bool) (n : ℕ) → length (now (bytes .entry)) ≤ n → (k : ℕ → List ℕ → List Failed) → Goes r (thing (now (way .entry) .parties) (now (way .entry) .slots) us depth things (now (bytes .entry)) n k) (λ x. onward (now (way .entry) .parties) (now (way .entry) .slots) (walker (now (way .entry) .parties) (now (way .entry) .slots) (depth + 1) (n - 1)) us (x .0) (things + 1) (now (x .1)) k)) ⌝ }
+    ensures shorter { λ r. ⌜ made r (λ x. length (now (x .1)) < length (now (bytes .entry))) ⌝ }
+    ensures within { λ r. ⌜ made r (λ _. (depth ≤ 64) × (things < 512)) ⌝ }
 {
     let Some((kind, rest)) = read_byte(bytes) else {
         return Err(Fault::Cut.with(0));
@@ -118,24 +95,79 @@ fn read_thing<'a>(bytes: &'a [u8], way: &Way, depth: u8, things: u16) -> Result<
     if depth > DEEPEST || things >= MOST_THINGS {
         return Err(Fault::TooLarge.with(bytes.len()));
     }
-    let things = things + 1;
     match kind {
-        0 => Ok(Ahead { things, rest }),
+        0 => Ok((Head::Over, rest)),
         1 => {
             let rest = read_payment(rest, way.parties, way.slots)?;
-            read_thing(rest, way, depth + 1, things)
+            Ok((Head::Pay, rest))
         }
         2 => {
             let rest = read_fork(rest, way.slots)?;
-            let ahead = read_thing(rest, way, depth + 1, things)?;
-            read_thing(ahead.rest, way, depth + 1, ahead.things)
+            Ok((Head::Fork, rest))
         }
         _ => {
             let (count, rest) = read_waiting(rest)?;
-            let ahead = read_acts(rest, way, depth + 1, count, things, &mut Seen::none())?;
-            read_thing(ahead.rest, way, depth + 1, ahead.things)
+            Ok((Head::Wait { count }, rest))
         }
     }
+}
+
+// How far reading has come: the bytes still to be read, and how many things there were.
+#[derive(Clone, Copy)]
+pub(crate) struct Ahead<'a> {
+    rest: &'a [u8],
+    things: u16,
+}
+
+// One of the four things.
+fn read_thing(ahead: &mut Ahead<'_>, way: &Way, depth: u8) -> Result<(), Wrong>
+    requires few_parties { ⌜ now way .parties ≤ 8 ⌝ }
+    requires few_slots { ⌜ now way .slots ≤ 8 ⌝ }
+    ensures goes { λ r. ⌜ ((n : ℕ) → length (now (now (ahead .entry) .rest)) ≤ n → (k : ℕ → List ℕ → List Failed) → Goes r (thing (now (way .entry) .parties) (now (way .entry) .slots) (now (way .entry) .used) depth (now (ahead .entry) .things) (now (now (ahead .entry) .rest)) n k) (λ _. k (now (ahead .exit) .things) (now (now (ahead .exit) .rest)))) ⌝ }
+    ensures shorter { λ r. ⌜ made r (λ _. length (now (now (ahead .exit) .rest)) < length (now (now (ahead .entry) .rest))) ⌝ }
+{
+    let (head, rest) = read_head(ahead.rest, way, depth, ahead.things)?;
+    ahead.rest = rest;
+    ahead.things += 1;
+    match head {
+        Head::Over => Ok(()),
+        Head::Pay => read_thing(ahead, way, depth + 1),
+        Head::Fork => {
+            read_thing(ahead, way, depth + 1)?;
+            read_thing(ahead, way, depth + 1)
+        }
+        Head::Wait { count } => {
+            read_acts(ahead, way, depth + 1, count, &mut Seen::none())?;
+            read_thing(ahead, way, depth + 1)
+        }
+    }
+}
+
+// So many acts. `depth` is how deep their continuations are.
+fn read_acts(
+    ahead: &mut Ahead<'_>,
+    way: &Way,
+    depth: u8,
+    count: u8,
+    seen: &mut Seen,
+) -> Result<(), Wrong>
+    requires few_parties { ⌜ now way .parties ≤ 8 ⌝ }
+    requires few_slots { ⌜ now way .slots ≤ 8 ⌝ }
+    ensures goes { λ r. ⌜ ((n : ℕ) → length (now (now (ahead .entry) .rest)) ≤ n → (keys : List Key) → Keeps (now (seen .entry)) keys → (k : ℕ → List ℕ → List Failed) → Goes r (acts (now (way .entry) .parties) (now (way .entry) .slots) (walker (now (way .entry) .parties) (now (way .entry) .slots) depth n) (now (way .entry) .used) count keys (now (ahead .entry) .things) (now (now (ahead .entry) .rest)) k) (λ _. k (now (ahead .exit) .things) (now (now (ahead .exit) .rest)))) ⌝ }
+    ensures shorter { λ r. ⌜ made r (λ _. length (now (now (ahead .exit) .rest)) ≤ length (now (now (ahead .entry) .rest))) ⌝ }
+{
+    if count == 0 {
+        return Ok(());
+    }
+    let (used, rest) = read_act(ahead.rest, way, seen)?;
+    ahead.rest = rest;
+    let inner = Way {
+        parties: way.parties,
+        slots: way.slots,
+        used,
+    };
+    read_thing(ahead, &inner, depth)?;
+    read_acts(ahead, way, depth, count - 1, seen)
 }
 
 // The whole: the number of parties, the number of slots, the first thing, and nothing behind it.
@@ -159,9 +191,14 @@ fn read_whole(bytes: &[u8]) -> Result<Agreement<'_>, Wrong>
         slots,
         used: [false; 8],
     };
-    let ahead = read_thing(first, &way, 1, 0)?;
-    if !ahead.rest.is_empty() {
-        return Err(Fault::Surplus.with(ahead.rest.len()));
+    let mut ahead = Ahead {
+        rest: first,
+        things: 0,
+    };
+    read_thing(&mut ahead, &way, 1)?;
+    let left = ahead.rest.len();
+    if left > 0 {
+        return Err(Fault::Surplus.with(left));
     }
     Ok(Agreement {
         parties,

@@ -10,24 +10,24 @@ use Rattle.agreement.specs.Checks.{surplus}
 use Rattle.agreement.proofs.Walking.{surplus-none, surplus-some, walk-begins}
 use Rattle.agreement.proofs.reading.read_whole.Needs as need
 
-pub returns-in-Break-ahead : need.returns-in-Break-ahead
-returns-in-Break-ahead c =
+pub returns-in-Break-read-thing : need.returns-in-Break-read-thing
+returns-in-Break-read-thing c =
     let p = err-from-errBy (c .from-residual .result) (c .from-residual .ensures .1) in
     let begun = walk-begins (c .in-Some .ensures tt .front) (c .in-Some-read-byte .ensures tt .front) (omega arith) (omega arith) (omega arith) in
-    rw (p .1, p .2, begun) (c .in-Break-ahead .ensures tt .goes (length (c .in-Some-read-byte .first .now)) (omega arith) surplus)
+    rw (p .1, p .2, begun) (c .in-Break-read-thing .ensures tt .goes (length (c .in-Some-read-byte .first .now)) (omega arith) surplus)
 
-pub returns-then-not-is-empty : need.returns-then-not-is-empty
-returns-then-not-is-empty c =
+pub returns-then-left-gt0 : need.returns-then-left-gt0
+returns-then-left-gt0 c =
     let begun = walk-begins (c .in-Some .ensures tt .front) (c .in-Some-read-byte .ensures tt .front) (omega arith) (omega arith) (omega arith) in
-    let read = c .in-Continue-ahead .ensures tt .goes (length (c .in-Some-read-byte .first .now)) (omega arith) surplus in
-    let some : 0 < length (c .in-Continue-ahead .ahead .rest .now) = search needs in
-    rw (begun, read, surplus-some (c .in-Continue-ahead .ahead .things) (c .in-Continue-ahead .ahead .rest .now) some) (search needs)
+    let read = c .in-Continue-read-thing .ensures tt .goes (length (c .in-Some-read-byte .first .now)) (omega arith) surplus in
+    let some : 0 < length (c .read-thing .last .ahead .rest .now) = omega arith in
+    rw (begun, read, surplus-some (c .read-thing .last .ahead .things) (c .read-thing .last .ahead .rest .now) some) (search needs)
 
 pub returns : need.returns
 returns c =
     let begun = walk-begins (c .in-Some .ensures tt .front) (c .in-Some-read-byte .ensures tt .front) (omega arith) (omega arith) (omega arith) in
-    let read = c .in-Continue-ahead .ensures tt .goes (length (c .in-Some-read-byte .first .now)) (omega arith) surplus in
-    let empty : length (c .in-Continue-ahead .ahead .rest .now) ≡ 0 = search needs in (
-      begun ∙ (read ∙ surplus-none (c .in-Continue-ahead .ahead .things) (c .in-Continue-ahead .ahead .rest .now) empty),
+    let read = c .in-Continue-read-thing .ensures tt .goes (length (c .in-Some-read-byte .first .now)) (omega arith) surplus in
+    let empty : length (c .read-thing .last .ahead .rest .now) ≡ 0 = omega arith in (
+      begun ∙ (read ∙ surplus-none (c .read-thing .last .ahead .things) (c .read-thing .last .ahead .rest .now) empty),
       c .in-Some .ensures tt .front ∙ ap (λ (r : List ℕ). c .in-Some .parties ∷ r) (c .in-Some-read-byte .ensures tt .front),
     )
