@@ -53,3 +53,38 @@ surplus-none t (b ∷ bs) e = absurd (omega arith)
 pub surplus-some : (t : ℕ) (bs : List ℕ) → 0 < length bs → surplus t bs ≡ wrong Surplus (length bs) ∷ []
 surplus-some t [] h = absurd (omega arith)
 surplus-some t (b ∷ bs) h = refl
+
+-- the walk from a thing on is that from a deeper one on
+pub record Comes (p q : ℕ) (us : List Bool) (d t : ℕ) (bs : List ℕ) (e u : ℕ) (rest : List ℕ) : Type 0 where
+  pub deeper : d ≤ e
+  pub shorter : length rest + (e - d) ≤ length bs
+  pub walks : (n : ℕ) (k : ℕ → List ℕ → List Wrong) → length bs ≤ n → thing p q us d t bs n k ≡ thing p q us e u rest (n - (e - d)) k
+
+pub came-enough : {p q : ℕ} {us : List Bool} {d t : ℕ} {bs : List ℕ} {e u : ℕ} {rest : List ℕ} → Comes p q us d t bs e u rest →
+    (n : ℕ) → length bs ≤ n → length rest ≤ n - (e - d)
+came-enough c n h = let short = c .shorter in omega arith
+
+pub comes-none : (p q : ℕ) (us : List Bool) (d t : ℕ) (bs : List ℕ) → Comes p q us d t bs d t bs
+comes-none p q us d t bs =
+    record {
+      deeper = omega arith;
+      shorter = omega arith;
+      walks = λ n k h. let e : n - (d - d) ≡ n = omega arith in rw e;
+    }
+
+-- one deeper
+pub comes-more : {p q : ℕ} {us : List Bool} {d t : ℕ} {bs : List ℕ} {e u : ℕ} {rest : List ℕ} (v : ℕ) (more : List ℕ) →
+    Comes p q us d t bs e u rest → length more < length rest →
+    ((n : ℕ) (k : ℕ → List ℕ → List Wrong) → length rest ≤ n → thing p q us e u rest n k ≡ thing p q us (e + 1) v more (n - 1) k) →
+    Comes p q us d t bs (e + 1) v more
+comes-more {d = d} {bs = bs} {e = e} {rest = rest} v more c less step =
+    let deep = c .deeper in
+    let short = c .shorter in
+    record {
+      deeper = omega arith;
+      shorter = omega arith;
+      walks = λ n k h.
+          let enough = came-enough c n h in
+          let same : n - (e - d) - 1 ≡ n - (e + 1 - d) = omega arith in
+          rw (c .walks n k h, step (n - (e - d)) k enough, same);
+    }

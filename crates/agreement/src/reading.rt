@@ -119,26 +119,24 @@ pub(crate) struct Ahead<'a> {
     things: u16,
 }
 
-// One of the four things.
-fn read_thing(ahead: &mut Ahead<'_>, way: &Way, depth: u8) -> Result<(), Wrong>
+// One of the four things. What follows last, on a payment, on a fork's second side or on a waiting's day, is read in
+// turn, and what stands before that by a call.
+fn read_thing(ahead: &mut Ahead<'_>, way: &Way, mut depth: u8) -> Result<(), Wrong>
     requires few_parties { ⌜ now way .parties ≤ 8 ⌝ }
     requires few_slots { ⌜ now way .slots ≤ 8 ⌝ }
     ensures goes { λ r. ⌜ ((n : ℕ) → length (now (now (ahead .entry) .rest)) ≤ n → (k : ℕ → List ℕ → List Failed) → Goes r (thing (now (way .entry) .parties) (now (way .entry) .slots) (now (way .entry) .used) depth (now (ahead .entry) .things) (now (now (ahead .entry) .rest)) n k) (λ _. k (now (ahead .exit) .things) (now (now (ahead .exit) .rest)))) ⌝ }
     ensures shorter { λ r. ⌜ made r (λ _. length (now (now (ahead .exit) .rest)) < length (now (now (ahead .entry) .rest))) ⌝ }
 {
-    let (head, rest) = read_head(ahead.rest, way, depth, ahead.things)?;
-    ahead.rest = rest;
-    ahead.things += 1;
-    match head {
-        Head::Over => Ok(()),
-        Head::Pay => read_thing(ahead, way, depth + 1),
-        Head::Fork => {
-            read_thing(ahead, way, depth + 1)?;
-            read_thing(ahead, way, depth + 1)
-        }
-        Head::Wait { count } => {
-            read_acts(ahead, way, depth + 1, count, &mut Seen::none())?;
-            read_thing(ahead, way, depth + 1)
+    loop {
+        let (head, rest) = read_head(ahead.rest, way, depth, ahead.things)?;
+        ahead.rest = rest;
+        ahead.things += 1;
+        depth += 1;
+        match head {
+            Head::Over => return Ok(()),
+            Head::Pay => {}
+            Head::Fork => read_thing(ahead, way, depth)?,
+            Head::Wait { count } => read_acts(ahead, way, depth, count, &mut Seen::none())?,
         }
     }
 }

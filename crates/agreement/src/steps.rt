@@ -13,6 +13,18 @@ use crate::numbers::read_byte;
 use crate::numbers::read_half;
 use crate::numbers::read_word;
 
+// The most cents that an amount may have as its base.
+const MOST_BASE: u32 = 1_000_000_000;
+
+// The most cents that it may have for each unit of a slot.
+const MOST_PER_UNIT: u16 = 1_000;
+
+// The largest value of a slot.
+const MOST_VALUE: u32 = 1_000_000;
+
+// The most acts that may be awaited together.
+const MOST_ACTS: u8 = 16;
+
 impl Fault {
     // The failed check, with so many bytes left.
     pub(crate) fn with(self, left: usize) -> Wrong
@@ -80,7 +92,7 @@ pub(crate) fn read_value(bytes: &[u8]) -> Result<(u32, &[u8]), Wrong>
     let Some((value, rest)) = read_word(bytes) else {
         return Err(Fault::Cut.with(0));
     };
-    if value > 1_000_000 {
+    if value > MOST_VALUE {
         return Err(Fault::Value.with(bytes.len()));
     }
     Ok((value, rest))
@@ -94,34 +106,28 @@ pub(crate) fn read_high(bytes: &[u8], low: u32) -> Result<&[u8], Wrong>
     let Some((high, rest)) = read_word(bytes) else {
         return Err(Fault::Cut.with(0));
     };
-    if high > 1_000_000 || high < low {
+    if high > MOST_VALUE || high < low {
         return Err(Fault::Value.with(bytes.len()));
     }
     Ok(rest)
 }
 
-// The cents per unit of one slot.
-pub(crate) fn read_rate(bytes: &[u8]) -> Result<&[u8], Wrong>
-    ensures goes { λ r. ⌜ ((k : List ℕ → List Failed) → Goes r (checks.rate (now (bytes .entry)) k) (λ x. k (now x))) ⌝ }
-    ensures shorter { λ r. ⌜ made r (λ x. length (now x) < length (now (bytes .entry))) ⌝ }
-{
-    let Some((cents, rest)) = read_half(bytes) else {
-        return Err(Fault::Cut.with(0));
-    };
-    if cents > 1_000 {
-        return Err(Fault::Cents.with(bytes.len()));
-    }
-    Ok(rest)
-}
-
+// The cents per unit of each slot.
 pub(crate) fn read_rates(bytes: &[u8], slots: u8) -> Result<&[u8], Wrong>
     ensures goes { λ r. ⌜ ((k : List ℕ → List Failed) → Goes r (checks.rates slots (now (bytes .entry)) k) (λ x. k (now x))) ⌝ }
     ensures shorter { λ r. ⌜ made r (λ x. length (now x) ≤ length (now (bytes .entry))) ⌝ }
 {
-    let mut rest = bytes;
-    for _ in 0..slots {
-        rest = read_rate(rest)?;
+    let there = (slots as usize).min(bytes.len() / 2);
+    for i in 0..there {
+        let cents = bytes[2 * i] as u16 + bytes[2 * i + 1] as u16 * 256;
+        if cents > MOST_PER_UNIT {
+            return Err(Fault::Cents.with(bytes.len() - 2 * i));
+        }
     }
+    if there < slots as usize {
+        return Err(Fault::Cut.with(0));
+    }
+    let (_, rest) = bytes.split_at(2 * there);
     Ok(rest)
 }
 
@@ -132,7 +138,7 @@ pub(crate) fn read_amount(bytes: &[u8], slots: u8) -> Result<&[u8], Wrong>
     let Some((base, rest)) = read_word(bytes) else {
         return Err(Fault::Cut.with(0));
     };
-    if base > 1_000_000_000 {
+    if base > MOST_BASE {
         return Err(Fault::Cents.with(bytes.len()));
     }
     read_rates(rest, slots)
@@ -169,7 +175,7 @@ pub(crate) fn read_waiting(bytes: &[u8]) -> Result<(u8, &[u8]), Wrong>
     let Some((count, behind)) = read_byte(rest) else {
         return Err(Fault::Cut.with(0));
     };
-    if count < 1 || count > 16 {
+    if count < 1 || count > MOST_ACTS {
         return Err(Fault::ActCount.with(rest.len()));
     }
     Ok((count, behind))

@@ -28,6 +28,6 @@ returns c =
     let begun = walk-begins (c .in-Some .ensures tt .front) (c .in-Some-read-byte .ensures tt .front) (omega arith) (omega arith) (omega arith) in
     let read = c .in-Continue-read-thing .ensures tt .goes (length (c .in-Some-read-byte .first .now)) (omega arith) surplus in
     let empty : length (c .read-thing .last .ahead .rest .now) ≡ 0 = omega arith in (
-      begun ∙ (read ∙ surplus-none (c .read-thing .last .ahead .things) (c .read-thing .last .ahead .rest .now) empty),
+      rw (begun, read) (surplus-none (c .read-thing .last .ahead .things) (c .read-thing .last .ahead .rest .now) empty),
       c .in-Some .ensures tt .front ∙ ap (λ (r : List ℕ). c .in-Some .parties ∷ r) (c .in-Some-read-byte .ensures tt .front),
     )
