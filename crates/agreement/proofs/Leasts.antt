@@ -1,10 +1,9 @@
 -- Of faults in their order the first is the least, and so reading answers it.
 use mathlib.Core.Path.{_≡_, refl, ap, _∙_}
-use mathlib.Core.Bool.{Bool, true, false, cond, _&&_, _||_}
+use mathlib.Core.Bool.{Bool, true, false}
 use mathlib.Core.List.{List, [], _∷_, _++_}
 use Prim.Native.Nat.{ℕ, _+_, _-_, _*_, _≤_, _<_}
 use native.Mathlib.Omega.{arith}
-use lib.Dec.{ltb, leb, eqb}
 use lib.ListN.{length}
 use Rattle.std.specs.declared.option.Option.{Option}
 use Rattle.std.specs.declared.option.Option.the-variants.{Some, None}
@@ -16,7 +15,7 @@ use Rattle.agreement.specs.Steps.{counted, first}
 use Rattle.agreement.specs.declared.Fault.the-variants.{Surplus}
 use Rattle.agreement.specs.declared.Refusal.{Refusal}
 use Rattle.agreement.specs.declared.Wrong.{Wrong}
-use Rattle.agreement.proofs.Ordered.{Down, Within, down-more, walk-down, weight}
+use Rattle.agreement.proofs.Ordered.{Down, Within, walk-down, weight}
 
 abbrev pub refusal : ℕ → Wrong → Refusal
 refusal n w = record { fault = w .fault; place = n - w .left }

@@ -1,19 +1,15 @@
 mod Acting
 mod Back
-mod Drawn
 mod Inversions
 mod Leasts
-mod Lengths
 mod Marks
 mod Meant
-mod Memory
 mod Ordered
 mod Parts
 mod Peeks
-mod PutRates
 mod Rates
 mod RatesAt
-mod Readable
+pub mod Readable
 mod Sizes
 mod Sound
 mod Verdicts

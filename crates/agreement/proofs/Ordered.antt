@@ -1,5 +1,4 @@
 -- The walk finds its faults in the order of their places, and at one place in that of their numbers.
-use mathlib.Core.Path.{_≡_, refl}
 use mathlib.Core.Bool.{Bool, true, false, cond, not, _&&_}
 use mathlib.Core.List.{List, [], _∷_}
 use Prim.Native.Nat.{ℕ, zero, suc, _+_, _-_, _*_, _≤_, _<_}
@@ -7,10 +6,10 @@ use native.Mathlib.Omega.{arith}
 use lib.Dec.{ltb, leb, eqb}
 use lib.ListN.{length, getD, set, replicate}
 use Rattle.agreement.specs.Bytes.{byte, half, word}
-use Rattle.agreement.specs.Checks.{Key, Walk, act, acts, amount, among, branch, check, choice, cut, deposit, follow, fresh, high, party, payment, rate, rates, slot, surplus, thing, unlike, value, waiting, walk, walker, wrong}
+use Rattle.agreement.specs.Checks.{Key, Walk, act, acts, amount, among, branch, check, choice, cut, deposit, follow, fresh, high, party, payment, rate, rates, slot, surplus, thing, unlike, value, waiting, walk, wrong}
 use Rattle.agreement.specs.Fault.{number}
 use Rattle.agreement.specs.declared.Fault.{Fault}
-use Rattle.agreement.specs.declared.Fault.the-variants.{Parties, Slots, Cut, Kind, TooLarge, Party, Slot, Cents, Value, ActCount, SetTwice, Alike, Surplus}
+use Rattle.agreement.specs.declared.Fault.the-variants.{Parties, Slots, Kind, TooLarge, Party, Slot, Cents, Value, ActCount, SetTwice, Alike, Surplus}
 use Rattle.agreement.specs.declared.Wrong.{Wrong}
 
 -- with more bytes left, or as many and a smaller number, a fault comes sooner

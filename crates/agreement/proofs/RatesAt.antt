@@ -10,10 +10,9 @@ use lib.ListN.{length, set, take, drop, replicate, length-set, take-append-drop}
 use lib.Seq.{take-suc-set, drop-set-lt}
 use Rattle.std.proofs.shelf.Lists.{drop-more}
 use Rattle.std.proofs.shelf.Tests.{cases-lt}
-use Rattle.std.specs.declared.option.Option.{Option}
 use Rattle.std.specs.declared.option.Option.the-variants.{Some, None}
 use Rattle.agreement.specs.Bytes.{half}
-use Rattle.agreement.specs.Meaning.{Look, ends, Act, no-more, rates-at}
+use Rattle.agreement.specs.Meaning.{ends, no-more, rates-at}
 use Rattle.agreement.specs.Numbers.{Reads}
 
 -- reading goes on at rest, with the first i coefficients known

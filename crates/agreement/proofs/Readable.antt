@@ -10,10 +10,9 @@ use Rattle.std.proofs.shelf.Lists.{take-at, take-replicate}
 use Rattle.std.specs.declared.result.Result.the-variants.{Ok}
 use Rattle.agreement.specs.Agreement.{Agreement}
 use Rattle.agreement.specs.Checks.{walk, surplus}
-use Rattle.agreement.specs.Draft.{Gives}
 use Rattle.agreement.specs.Limits.{Allowed}
 use Rattle.agreement.specs.Meaning.{Spot, meant, meaning, behind}
-use Rattle.agreement.specs.Reading.{failing, least, verdict, reading, Taken}
+use Rattle.agreement.specs.Reading.{Gives, failing, least, verdict, reading, Taken}
 use Rattle.agreement.specs.Writing.{writing, written}
 use Rattle.agreement.proofs.Meant.{meant-written}
 use Rattle.agreement.proofs.Sizes.{length-written}

@@ -10,7 +10,6 @@ use Rattle.std.specs.declared.option.Option.the-variants.{Some, None}
 use Rattle.std.specs.declared.result.Result.{Result}
 use Rattle.std.specs.declared.result.Result.the-variants.{Ok, Err}
 use Rattle.std.proofs.shelf.Ways.{tells}
-use Rattle.agreement.specs.Agreement.{Agreement}
 use Rattle.agreement.specs.Meaning.{Spot, meaning}
 use Rattle.agreement.specs.Reading.{Among, here, there, First, Least, Taken, Taking, failing, least, lesser, reading, sooner}
 use Rattle.agreement.specs.Checks.{walk}

@@ -1,13 +1,11 @@
 pub mod Agreement
 pub mod Bytes
 pub mod Checks
-pub mod Draft
 pub mod Fault
 pub mod Limits
 pub mod Meaning
 pub mod Numbers
 pub mod Places
-pub mod Putting
 pub mod Reading
 pub mod Steps
 pub mod Writing

@@ -1,7 +1,7 @@
 -- What reading answers: the least of all checks that fail, or where the agreement begins. Assumes nothing: these are
 -- definitions.
 use mathlib.Core.Path.{_≡_}
-use mathlib.Core.Bool.{Bool, true, false, cond, _&&_, _||_}
+use mathlib.Core.Bool.{Bool, true, cond, _&&_, _||_}
 use mathlib.Core.List.{List, [], _∷_, _++_}
 use Prim.Native.Nat.{ℕ, _-_}
 use lib.Dec.{ltb, leb, eqb}
@@ -87,3 +87,8 @@ pub record Taken (bs : List ℕ) (p q : ℕ) (a : value.Agreement) : Type 0 wher
 abbrev pub Taking : List ℕ → Result Spot Refusal → Type 0
 Taking bs (Ok s) = Taken bs (s .parties) (s .slots) (meaning s)
 Taking bs (Err r) = (p q : ℕ) (a : value.Agreement) → Taken bs p q a → ⊥
+
+-- the answer of reading is an agreement for p parties and q slots that means a
+abbrev pub Gives : ℕ → ℕ → value.Agreement → Result Spot Refusal → Type 0
+Gives p q a (Ok s) = (s .parties ≡ p) × (s .slots ≡ q) × (meaning s ≡ a)
+Gives p q a (Err r) = ⊥

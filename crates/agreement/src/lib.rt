@@ -1,24 +1,18 @@
 // Agreements as bytes.
 mod display;
-mod draft;
 mod numbers;
 mod places;
 mod reading;
 mod seen;
 mod steps;
-mod writing;
 
 pub use display::RefusalDisplay;
-pub use draft::ActList;
-pub use draft::Draft;
-pub use draft::Thing;
 pub use places::Act;
 pub use places::Acts;
 pub use places::Place;
 pub use places::Rest;
 pub use places::Step;
 pub use reading::read;
-pub use writing::write;
 
 // How deep things may be nested.
 const DEEPEST: u8 = 64;

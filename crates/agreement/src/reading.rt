@@ -16,10 +16,10 @@ use crate::Refusal;
 use crate::Wrong;
 use crate::numbers::read_byte;
 use crate::seen::Seen;
+use crate::steps::read_choice;
 use crate::steps::read_deposit;
 use crate::steps::read_fork;
 use crate::steps::read_payment;
-use crate::steps::read_setting;
 use crate::steps::read_waiting;
 
 // The most things that an agreement may have.
@@ -56,7 +56,7 @@ fn read_act<'a>(bytes: &'a [u8], way: &Way, seen: &mut Seen) -> Result<([bool; 8
             if seen.has_setting(bytes) {
                 return Err(Fault::Alike.with(bytes.len()));
             }
-            let (party, slot, rest) = read_setting(rest, way.parties, way.slots, &way.used)?;
+            let (party, slot, rest) = read_choice(rest, way.parties, way.slots, &way.used)?;
             seen.add_setting(party, slot);
             let mut used = way.used;
             used[slot as usize] = true;

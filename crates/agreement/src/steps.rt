@@ -1,6 +1,6 @@
 // The steps of reading: each hands on its value and the bytes behind it, or says what is wrong.
 ghost use mathlib.Core.Path.{_≡_};
-ghost use mathlib.Core.List.{List, _∷_};
+ghost use mathlib.Core.List.{List};
 ghost use Prim.Native.Nat.{ℕ, _<_, _≤_};
 ghost use lib.ListN.{length};
 ghost use Rattle.std.specs.Vec.{made};
@@ -193,8 +193,8 @@ pub(crate) fn read_deposit(bytes: &[u8], parties: u8, slots: u8) -> Result<(u8, 
     Ok((party, account, rest))
 }
 
-// What a setting has between its kind and its continuation; its party and slot are handed on.
-pub(crate) fn read_setting<'a>(
+// What a choice has between its kind and its continuation; its party and slot are handed on.
+pub(crate) fn read_choice<'a>(
     bytes: &'a [u8],
     parties: u8,
     slots: u8,

@@ -1,12 +1,7 @@
 -- The head of each of the four things.
-use mathlib.Core.Path.{_≡_, _∙_}
-use Prim.Native.Nat.{_+_, _-_}
+use mathlib.Core.Path.{_≡_}
 use borrow.Author.Needs.{needs}
 use native.Mathlib.Omega.{arith}
-use Rattle.std.proofs.shelf.Results.{err-from-errBy}
-use Rattle.agreement.specs.Checks.{walker}
-use Rattle.agreement.specs.Steps.{onward}
-use Rattle.agreement.specs.declared.reading.Head.the-variants.{Pay, Fork, Wait}
 use Rattle.agreement.proofs.Walking.{thing-follow}
 use Rattle.agreement.proofs.reading.read_head.Needs as need
 

@@ -1,0 +1,4 @@
+mod Drawn
+mod Lengths
+mod Memory
+mod Rates
