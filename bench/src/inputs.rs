@@ -117,10 +117,10 @@ impl Writer {
     }
 }
 
-fn small_sale() -> Input {
-    // Party 0 deposits 10,000 cents until day 5; in both cases it is over.
+/// Party 0 deposits 10,000 cents until day 5; in both cases it is over.
+fn deposit() -> Input {
     let bytes = vec![2, 0, 3, 5, 0, 1, 1, 0, 0, 0x10, 0x27, 0, 0, 0, 0];
-    Input { name: "deposit".into(), bytes }
+    Input { name: "a deposit".into(), bytes }
 }
 
 pub fn examples(folder: &Path) -> Vec<Input> {
@@ -140,7 +140,7 @@ pub fn examples(folder: &Path) -> Vec<Input> {
 }
 
 pub fn built() -> Vec<Input> {
-    let mut all = vec![small_sale()];
+    let mut all = vec![deposit()];
     let mut add = |name: &str, parties: u8, slots: u8, write: &dyn Fn(&mut Writer)| {
         let mut writer = Writer::new(parties, slots);
         write(&mut writer);
@@ -168,7 +168,7 @@ pub fn built() -> Vec<Input> {
     add("2 levels of 16 deposits, 8 slots", 8, 8, &|w| w.waitings(2, 16, [false, false], 0));
     add("2 levels of 16 settings", 8, 4, &|w| w.waitings(2, 16, [true, true], 0));
     add("2 levels of 16 acts", 8, 4, &|w| w.waitings(2, 16, [false, true], 0));
-    add("4 levels of 3 acts, a payment each", 8, 8, &|w| w.waitings(4, 3, [true, false], 0));
+    add("4 levels of 3 acts", 8, 8, &|w| w.waitings(4, 3, [true, false], 0));
     add("60 waitings of 1 deposit", 8, 8, &|w| {
         for _ in 0..60 {
             w.waiting(1);

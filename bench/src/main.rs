@@ -54,22 +54,25 @@ fn timed(read: fn(&[u8]) -> Answer, bytes: &[u8], count: usize) -> f64 {
     (now() - start) / count as f64
 }
 
-const MEASURED: f64 = 50e6;
+/// How long a reader is measured in a round, in slices that take turns with the other reader's, so that some slice of each is
+/// not disturbed.
+const ROUND: f64 = 50e6;
+const SLICES: usize = 10;
 
-/// The best time of each reader, in turns.
+/// The best time of each reader for one reading.
 fn measured(bytes: &[u8], rounds: usize) -> (f64, f64) {
-    let mut count = 16;
-    while timed(plain, bytes, count) * (count as f64) < MEASURED / 8.0 {
-        count *= 2;
+    let readers: [fn(&[u8]) -> Answer; 2] = [plain, proved];
+    let counts = readers.map(|read| {
+        timed(read, bytes, 1000);
+        (ROUND / SLICES as f64 / timed(read, bytes, 1000)) as usize + 1
+    });
+    let mut best = [f64::MAX; 2];
+    for _ in 0..rounds * SLICES {
+        for reader in 0..2 {
+            best[reader] = best[reader].min(timed(readers[reader], bytes, counts[reader]));
+        }
     }
-    let count = |one: f64| (MEASURED / one) as usize + 1;
-    let counts = (count(timed(plain, bytes, 64)), count(timed(proved, bytes, 64)));
-    let mut best = (f64::MAX, f64::MAX);
-    for _ in 0..rounds {
-        best.0 = best.0.min(timed(plain, bytes, counts.0));
-        best.1 = best.1.min(timed(proved, bytes, counts.1));
-    }
-    best
+    (best[0], best[1])
 }
 
 struct Random(u64);
@@ -143,10 +146,11 @@ fn compared(inputs: &[Input], count: usize) -> [usize; 18] {
     answers
 }
 
-/// A line for each input, and last the largest and the mean ratio.
+/// A line for each input, where `read` is how many bytes were read, up to the place of the refusal; last the largest and the
+/// mean ratio.
 fn table(title: &str, inputs: &[Input], rounds: usize) {
-    println!("\n{title:46} bytes   read  plain ns proved ns  plain proved  ratio");
-    println!("{:88}ns/byte", "");
+    println!("\n{title:54} bytes   read       ns of      ns a byte of");
+    println!("{:68} plain   proved  plain proved  ratio", "");
     let mut ratios = Vec::new();
     for Input { name, bytes } in inputs {
         let read = agree(bytes).map_or(bytes.len(), |(_, place)| (place + 1).min(bytes.len()));
@@ -154,7 +158,7 @@ fn table(title: &str, inputs: &[Input], rounds: usize) {
         let each = read.max(1) as f64;
         let ratio = by_proof / by_hand;
         println!(
-            "{name:46} {:5}  {read:5} {by_hand:9.1} {by_proof:9.1} {:6.2} {:6.2} {ratio:6.2}",
+            "{name:54} {:5}  {read:5} {by_hand:7.1} {by_proof:8.1} {:6.2} {:6.2} {ratio:6.2}",
             bytes.len(),
             by_hand / each,
             by_proof / each,
@@ -167,6 +171,7 @@ fn table(title: &str, inputs: &[Input], rounds: usize) {
 }
 
 fn main() {
+    // The folder of examples; then how many rounds to measure, and how many changed inputs to compare on.
     let words: Vec<String> = env::args().collect();
     let number = |at: usize, otherwise: usize| words.get(at).map_or(otherwise, |word| word.parse().expect("a number"));
     let (rounds, mutations) = (number(2, 5), number(3, 400_000));
@@ -176,7 +181,14 @@ fn main() {
     for input in &valid {
         assert_eq!(agree(&input.bytes), None, "{}", input.name);
     }
-    let chosen = ["sale.agreement", "63 payments, 8 slots", "forks 8 deep", "2 levels of 16 deposits, 8 slots", "2 levels of 16 settings", "longest"];
+    let chosen = [
+        "sale.agreement",
+        "63 payments, 8 slots",
+        "forks 8 deep",
+        "2 levels of 16 deposits, 8 slots",
+        "2 levels of 16 settings",
+        "longest",
+    ];
     let few: Vec<Input> = valid
         .iter()
         .filter(|input| chosen.contains(&input.name.as_str()))

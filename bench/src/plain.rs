@@ -105,10 +105,7 @@ impl Reader<'_> {
 
     /// Marks the act, by its party and its account or slot, unless it was marked before.
     fn alike(&self, at: usize, seen: &mut u64) -> Result<(), Refusal> {
-        if let (Some(&party), Some(&object)) = (self.bytes.get(at + 1), self.bytes.get(at + 2))
-            && party < 8
-            && object < 8
-        {
+        if let Some([party @ 0..8, object @ 0..8]) = self.bytes.get(at + 1..at + 3) {
             let mark = 1 << (party * 8 + object);
             if *seen & mark != 0 {
                 return refuse(Fault::Alike, at);

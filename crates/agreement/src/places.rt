@@ -99,10 +99,15 @@ impl<'a> Agreement<'a> {
     pub fn start(self) -> Place<'a>
         ensures { λ r. ⌜ spot r ≡ begun (self .entry) ⌝ }
     {
+        let Agreement {
+            parties,
+            slots,
+            bytes,
+        } = self;
         Place {
-            bytes: self.bytes,
-            parties: self.parties,
-            slots: self.slots,
+            bytes,
+            parties,
+            slots,
             depth: DEEPEST,
         }
     }

@@ -6,6 +6,8 @@ mod changes;
 #[cfg(test)]
 mod edges;
 #[cfg(test)]
+mod places;
+#[cfg(test)]
 mod refusals;
 #[cfg(test)]
 mod sizes;
