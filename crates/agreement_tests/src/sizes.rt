@@ -214,3 +214,39 @@ fn the_longest_has_11_753_bytes(rt: LibcRuntime) -> Result<(), Fail> {
         Refused(13, 11_753),
     )
 }
+
+// Forks 8 deep, 255 in all, each with over on both sides; the last over is left out.
+fn forks(heap: Global) -> Result<Vec<u8>, AllocError> {
+    let mut bytes = Vec::from_slice(heap, b"\x01\x01")?;
+    for pair in 128..256u32 {
+        for _ in 0..pair.trailing_zeros().saturating_add(1) {
+            bytes.extend_from_slice(FORK)?;
+        }
+        bytes.extend_from_slice(b"\x00\x00")?;
+    }
+    bytes.pop();
+    Ok(bytes)
+}
+
+fn check_forks(heap: Global, last: &[u8], answer: Answer) -> Result<(), Fail> {
+    let mut bytes = forks(heap)?;
+    bytes.extend_from_slice(last)?;
+    check_answer(&bytes, answer)
+}
+
+#[test]
+fn forks_are_things(rt: LibcRuntime) -> Result<(), Fail> {
+    check_forks(rt.alloc(), OVER, Taken)?;
+    // the 513th is the last over
+    check_forks(
+        rt.alloc(),
+        b"\x02\x00\x01\x00\x00\x00\x00\x00",
+        Refused(5, 1794),
+    )?;
+    // the bytes end where it is due
+    check_forks(
+        rt.alloc(),
+        b"\x02\x00\x01\x00\x00\x00\x00",
+        Refused(3, 1794),
+    )
+}
