@@ -11,7 +11,7 @@ use Rattle.std.specs.declared.result.Result.the-variants.{Ok}
 use Rattle.agreement.specs.Agreement.{Agreement}
 use Rattle.agreement.specs.Checks.{walk, surplus}
 use Rattle.agreement.specs.Limits.{Allowed}
-use Rattle.agreement.specs.Meaning.{Spot, meant, meaning, behind}
+use Rattle.agreement.specs.Meaning.{Spot, meant, meaning}
 use Rattle.agreement.specs.Reading.{Gives, failing, least, verdict, reading, Taken}
 use Rattle.agreement.specs.Writing.{writing, written}
 use Rattle.agreement.proofs.Meant.{meant-written}
@@ -48,9 +48,6 @@ module _ (bs : List ℕ) (p q : ℕ) (a : Agreement) (taken : Taken bs p q a) wh
 
   pub meaning-taken : meaning (start p q bs) ≡ a
   meaning-taken = ap (λ m. m .what) meant-taken
-
-  pub behind-taken : behind (start p q bs) ≡ []
-  behind-taken = ap (λ m. m .rest) meant-taken
 
 -- so it is read where it stands at the front of memory
 pub gives-written : (p q : ℕ) (a : Agreement) (more : List ℕ) (n : ℕ) → n ≡ length (written p q a) → Allowed p q a →
