@@ -1,4 +1,6 @@
 // Agreements as bytes.
+#![tactic(auto)]
+
 mod display;
 mod numbers;
 mod places;

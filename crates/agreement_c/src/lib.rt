@@ -1,4 +1,6 @@
 // Agreements as other languages call them.
+#![tactic(auto)]
+
 ghost use Rattle.std.specs.Prelude.{◌≡◌};
 ghost use Rattle.agreement.specs.Reading.{reading};
 ghost use Rattle.agreement_c.specs.Told.{numbered, put};

@@ -1,4 +1,6 @@
 // Examples of what the reader takes and what it refuses.
+#![tactic(auto)]
+
 #[cfg(test)]
 mod answers;
 #[cfg(test)]

@@ -4,6 +4,8 @@
 // each unit of each slot, so what it is worth is known only once the slots are. A form is an amount less an amount:
 // an account less a payment, say. Over a box of slot values a form is least at one of the box's corners, so the
 // question whether the account can always cover the payment has an exact answer.
+#![tactic(auto)]
+
 mod change;
 mod least;
 mod worth;

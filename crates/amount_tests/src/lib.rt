@@ -1,4 +1,6 @@
 // Examples of what amounts and forms come to.
+#![tactic(auto)]
+
 ghost use Rattle.std.specs.Prelude.{◌≤◌, length};
 ghost use Rattle.amount.specs.Form.{Bounded};
 

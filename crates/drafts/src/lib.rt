@@ -1,4 +1,6 @@
 // Agreements as software draws them up, and their writing.
+#![tactic(auto)]
+
 mod draft;
 mod writing;
 

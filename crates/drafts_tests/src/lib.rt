@@ -1,4 +1,6 @@
 // Tests of writing: the sale, as software draws it up.
+#![tactic(auto)]
+
 #[cfg(test)]
 mod tests {
     use agreement::read;

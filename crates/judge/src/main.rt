@@ -1,4 +1,6 @@
 // Reads an agreement's bytes from standard input, and prints what the judge finds.
+#![tactic(auto)]
+
 mod answers;
 
 use answers::answer_to;

@@ -7,13 +7,13 @@ loop-slot-init c = (rated_none c.args.slots c.args.bytes.now, omega arith)
 
 pub loop-slot-preserved : goal.loop-slot-preserved
 loop-slot-preserved c =
-    let e = c.in-ok-rate.ensures in
+    let e = c.in_ok-rate.ensures in
     (rated_more _ _ _ _ _ c.loop-slot.invariant.0 _ _ e.is (omega arith) (omega arith), omega arith)
 
-pub returns-in-err-rate : goal.returns-in-err-rate
-returns-in-err-rate c =
-    let none = rated_cut _ _ _ _ _ c.loop-slot.invariant.0 c.in-err-rate.ensures.is (omega arith) (omega arith) in
-    rw c.from-residual.ensures (record { is = record { looks = λ k. none.looks _; acts = λ k. none.acts _ }; shorter = tt })
+pub returns-in_err-rate : goal.returns-in_err-rate
+returns-in_err-rate c =
+    let none = rated_cut _ _ _ _ _ c.loop-slot.invariant.0 c.in_err-rate.ensures.is (omega arith) (omega arith) in
+    rw c.from_residual.ensures (record { is = record { looks = λ k. none.looks _; acts = λ k. none.acts _ }; shorter = tt })
 
 pub returns : goal.returns
 returns c =

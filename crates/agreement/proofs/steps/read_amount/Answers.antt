@@ -10,6 +10,6 @@ returns c =
     record {
       goes = λ k.
           rw (c.in-Some.ensures.walks (λ n r. check (leb n 1000000000) Cents (length c.args.bytes.now) (rates c.args.slots r k)), le-leb c.in-Some.base 1000000000 (omega arith))
-          (c.read-rates.ensures.goes k);
+          (c.read_rates.ensures.goes k);
       shorter = search rules;
     }

@@ -5,5 +5,5 @@ use Rattle.drafts.proofs.writing.put_choice.Goals as goal
 pub returns : goal.returns
 returns c = record {
   end = search rules;
-  puts = λ more. c.put-next.ensures.puts (four c.args.low (four c.args.high more)) ∙ c.put-word-next.ensures.puts (four c.args.high more) ∙ c.put-word.ensures.puts more;
+  puts = λ more. c.put-next.ensures.puts (four c.args.low (four c.args.high more)) ∙ c.put_word-next.ensures.puts (four c.args.high more) ∙ c.put_word.ensures.puts more;
 }

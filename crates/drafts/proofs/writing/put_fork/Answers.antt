@@ -5,5 +5,5 @@ use Rattle.drafts.proofs.writing.put_fork.Goals as goal
 pub returns : goal.returns
 returns c = record {
   end = search rules;
-  puts = λ more. c.put-next.ensures.puts (four c.args.bound more) ∙ c.put-word.ensures.puts more;
+  puts = λ more. c.put-next.ensures.puts (four c.args.bound more) ∙ c.put_word.ensures.puts more;
 }

@@ -6,5 +6,5 @@ use Rattle.drafts.proofs.writing.put_transfer.Goals as goal
 pub returns : goal.returns
 returns c = record {
   end = search rules;
-  puts = λ more. c.put-next.ensures.puts (amount c.args.slots (meaning c.args.amount.now) more) ∙ c.put-amount.ensures.puts more;
+  puts = λ more. c.put-next.ensures.puts (amount c.args.slots (meaning c.args.amount.now) more) ∙ c.put_amount.ensures.puts more;
 }

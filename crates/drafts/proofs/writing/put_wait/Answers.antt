@@ -5,5 +5,5 @@ use Rattle.drafts.proofs.writing.put_wait.Goals as goal
 pub returns : goal.returns
 returns c = record {
   end = search rules;
-  puts = λ more. c.put-next.ensures.puts (two c.args.day (c.args.count ∷ more)) ∙ c.put-half-next.ensures.puts (c.args.count ∷ more) ∙ c.put.ensures.puts more;
+  puts = λ more. c.put-next.ensures.puts (two c.args.day (c.args.count ∷ more)) ∙ c.put_half-next.ensures.puts (c.args.count ∷ more) ∙ c.put.ensures.puts more;
 }

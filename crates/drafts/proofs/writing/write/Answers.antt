@@ -13,11 +13,11 @@ returns c =
     let fits : leb (length (draft_bytes draft)) (length old) ≡ true = le-leb (length (draft_bytes draft)) (length old) (omega arith) in
     let filled =
     c.put-next.ensures.puts (writing draft.slots (drawn draft.first) []) ∙
-    c.put-thing.ensures.puts [] ∙
-    put_none c.put-thing.result c.put-thing.new.out in
+    c.put_thing.ensures.puts [] ∙
+    put_none c.put_thing.result c.put_thing.new.out in
     record {
       answer = rw fits (ap Ok (omega arith));
       memory = rw fits (sym filled);
       back = λ allowed.
-          rw (← filled) (gives_written draft.parties draft.slots (drawn draft.first) _ c.put-thing.result (omega arith) allowed);
+          rw (← filled) (gives_written draft.parties draft.slots (drawn draft.first) _ c.put_thing.result (omega arith) allowed);
     }

@@ -12,10 +12,10 @@ unknown p q zero bs kind rest deep h e = absurd (omega arith)
 unknown p q (suc d) bs kind rest deep h e =
     rw (e, ne_eqb kind 0 (λ x. omega arith), ne_eqb kind 1 (λ x. omega arith), ne_eqb kind 2 (λ x. omega arith), ne_eqb kind 3 (λ x. omega arith)) refl
 
-pub returns-in-default : goal.returns-in-default
-returns-in-default c =
+pub returns-in_default : goal.returns-in_default
+returns-in_default c =
     record {
-      is = unknown _ _ c.args.self.depth _ c.in-ok-kind.kind _ (omega arith) (omega arith) c.in-ok-kind.ensures.is.looks;
+      is = unknown _ _ c.args.self.depth _ c.in_ok-kind.kind _ (omega arith) (omega arith) c.in_ok-kind.ensures.is.looks;
       parts = tt;
       ranges = tt;
     }
