@@ -1,5 +1,5 @@
 -- Agreements, and when one is well made. Assumes nothing: these are definitions.
-use Rattle.std.specs.Prelude.{ℕ, max, Bool, true, false, not, ◌&&◌, ◌||◌, List, length, set, ◌==◌, nat_le, nat_lt, slice_index_or, slice_set}
+use Rattle.std.specs.Prelude.{ℕ, max, Bool, true, false, not, ◌&&◌, ◌||◌, List, length, ◌==◌, nat_le, nat_lt, slice_index_or, slice_set}
 use Rattle.amount.specs.Amount.{Amount}
 
 -- what is left to do: nothing; a payment out of one party's account to a party; two ways by a slot's value;

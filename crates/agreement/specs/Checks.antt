@@ -3,7 +3,7 @@
 -- A walk goes through the bytes in their order, records a check that fails and goes on, wherever what is due next is
 -- still known: only after a missing byte or an unknown kind it is not. Each step is handed the bytes from its own on,
 -- and k, which goes on behind it.
-use Rattle.std.specs.Prelude.{ℕ, zero, suc, ◌+◌, Bool, true, false, cond, not, ◌&&◌, ◌||◌, List, [], ◌∷◌, length, set, replicate, ◌==◌, nat_le, nat_lt, slice_index_or, slice_set}
+use Rattle.std.specs.Prelude.{ℕ, zero, suc, ◌+◌, Bool, true, false, cond, not, ◌&&◌, ◌||◌, List, [], ◌∷◌, length, replicate, ◌==◌, nat_le, nat_lt, slice_index_or, slice_set}
 use Rattle.agreement.specs.Bytes.{byte, half, word}
 use Rattle.agreement.specs.declared.Fault.{Fault}
 use Rattle.agreement.specs.declared.Fault.TheVariants.{Parties, Slots, Cut, Kind, TooLarge, Party, Slot, Cents, Value, ActCount, SetTwice, Alike, Surplus}
