@@ -11,31 +11,31 @@ use Rattle.drafts.specs.declared.draft.Thing.{Thing, Pay, Fork, Wait}
 pub drawn_pay :
     {t rest : Thing} {from to : ℕ} {amount : Amount} {b : Box Thing Global} → t ≡ Pay from to amount b → rest ≡ b.value →
     drawn t ≡ pay from to (meaning amount) (drawn rest)
-drawn_pay {from = from} {to = to} {amount = amount} is rest-is =
-    ap drawn is ∙ sym (ap (λ r. pay from to (meaning amount) (drawn r)) rest-is)
+drawn_pay {from = from} {to = to} {amount = amount} is rest_is =
+    ap drawn is ∙ sym (ap (λ r. pay from to (meaning amount) (drawn r)) rest_is)
 
 pub drawn_fork :
     {t below otherwise : Thing} {slot bound : ℕ} {b o : Box Thing Global} → t ≡ Fork slot bound b o → below ≡ b.value → otherwise ≡ o.value →
     drawn t ≡ fork slot bound (drawn below) (drawn otherwise)
-drawn_fork {slot = slot} {bound = bound} is below-is otherwise-is =
-    ap drawn is ∙ sym (λ i. fork slot bound (drawn (below-is i)) (drawn (otherwise-is i)))
+drawn_fork {slot = slot} {bound = bound} is below_is otherwise_is =
+    ap drawn is ∙ sym (λ i. fork slot bound (drawn (below_is i)) (drawn (otherwise_is i)))
 
 pub drawn_wait :
     {t rest : Thing} {day : ℕ} {acts : ActList} {b : Box Thing Global} → t ≡ Wait day acts b → rest ≡ b.value →
     drawn t ≡ await (drawn_acts acts) day (drawn rest)
-drawn_wait {day = day} {acts = acts} is rest-is =
-    ap drawn is ∙ sym (ap (λ r. await (drawn_acts acts) day (drawn r)) rest-is)
+drawn_wait {day = day} {acts = acts} is rest_is =
+    ap drawn is ∙ sym (ap (λ r. await (drawn_acts acts) day (drawn r)) rest_is)
 
 pub drawn_deposit :
     {acts more : ActList} {rest : Thing} {party account : ℕ} {amount : Amount} {b : Box Thing Global} {m : Box ActList Global} →
     acts ≡ Deposit party account amount b m → rest ≡ b.value → more ≡ m.value →
     drawn_acts acts ≡ deposit party account (meaning amount) (drawn rest) (drawn_acts more)
-drawn_deposit {party = party} {account = account} {amount = amount} is rest-is more-is =
-    ap drawn_acts is ∙ sym (λ i. deposit party account (meaning amount) (drawn (rest-is i)) (drawn_acts (more-is i)))
+drawn_deposit {party = party} {account = account} {amount = amount} is rest_is more_is =
+    ap drawn_acts is ∙ sym (λ i. deposit party account (meaning amount) (drawn (rest_is i)) (drawn_acts (more_is i)))
 
 pub drawn_choice :
     {acts more : ActList} {rest : Thing} {party slot low high : ℕ} {b : Box Thing Global} {m : Box ActList Global} →
     acts ≡ Choice party slot low high b m → rest ≡ b.value → more ≡ m.value →
     drawn_acts acts ≡ choose party slot low high (drawn rest) (drawn_acts more)
-drawn_choice {party = party} {slot = slot} {low = low} {high = high} is rest-is more-is =
-    ap drawn_acts is ∙ sym (λ i. choose party slot low high (drawn (rest-is i)) (drawn_acts (more-is i)))
+drawn_choice {party = party} {slot = slot} {low = low} {high = high} is rest_is more_is =
+    ap drawn_acts is ∙ sym (λ i. choose party slot low high (drawn (rest_is i)) (drawn_acts (more_is i)))

@@ -4,7 +4,7 @@ ghost use Rattle.amount.specs.Form.{meaning};
 ghost use Rattle.agreement.specs.Bytes.{two, four};
 ghost use Rattle.drafts.specs.Draft.{drawn, drawn_acts, draft_bytes, fitting, memory_after, ReadBack};
 ghost use Rattle.drafts.specs.Putting.{Puts, size, size_acts};
-ghost use Rattle.agreement.specs.Writing.{writing, writing_acts, amount as amount-bytes, count as act-count};
+ghost use Rattle.agreement.specs.Writing.{writing, writing_acts, amount as amount_bytes, count as act_count};
 
 use crate::{ActList, Draft, Thing};
 use agreement::{Fault, Refusal};
@@ -54,7 +54,7 @@ fn rate(amount: &Amount, slot: u8) -> u16
 fn put_amount(amount: &Amount, slots: u8, out: &mut [u8], at: usize) -> usize
     requires { at + (4 + 2 * slots) ≤ length out.old }
     ensures end { result ≡ at + (4 + 2 * slots) }
-    ensures puts { Puts (amount-bytes slots (meaning amount.now)) at out.old result out.new }
+    ensures puts { Puts (amount_bytes slots (meaning amount.now)) at out.old result out.new }
 {
     let mut end = put_word(amount.base, out, at);
     for slot in 0..slots {
@@ -67,7 +67,7 @@ fn put_amount(amount: &Amount, slots: u8, out: &mut [u8], at: usize) -> usize
 fn put_transfer(from: u8, to: u8, amount: &Amount, slots: u8, out: &mut [u8], at: usize) -> usize
     requires { at + (7 + 2 * slots) ≤ length out.old }
     ensures end { result ≡ at + (7 + 2 * slots) }
-    ensures puts { Puts (λ more. 1 ∷ from ∷ to ∷ amount-bytes slots (meaning amount.now) more) at out.old result out.new }
+    ensures puts { Puts (λ more. 1 ∷ from ∷ to ∷ amount_bytes slots (meaning amount.now) more) at out.old result out.new }
 {
     let next = put(&[1, from, to], out, at);
     put_amount(amount, slots, out, next)
@@ -107,7 +107,7 @@ fn put_choice(party: u8, slot: u8, low: u32, high: u32, out: &mut [u8], at: usiz
 
 // How many acts there are, or the largest byte where there are more.
 fn count(acts: &ActList) -> u8
-    ensures { result ≡ min (act-count (drawn_acts acts.now)) 255 }
+    ensures { result ≡ min (act_count (drawn_acts acts.now)) 255 }
 {
     match acts {
         ActList::None => 0,
