@@ -4,7 +4,9 @@ use Rattle.std.proofs.lemmas.Int.{ints}
 use Rattle.amount.specs.Amount.{Amount, worth}
 use Rattle.amount.specs.Corner.{corner, Inside, none, one, CornerLaw}
 use Rattle.amount.specs.Form.{dotℤ, value, lowest, low_or_high}
+use Rattle.amount.specs.Least.{lowest_in, Exact}
 use Rattle.amount.specs.Less.{Less}
+use Rattle.amount.specs.declared.Bounds.{Bounds}
 use Rattle.amount.specs.declared.Form.{Form}
 use Rattle.amount.proofs.Lessened.{Apart, value_less}
 
@@ -18,7 +20,7 @@ dot_least [] i = omega (arith, ints)
 dot_least (c ∷ cs) none = omega (arith, ints)
 dot_least (c ∷ cs) (one {l} {v} {h} p q i) = let first = one_least c l v h p q in let rest = dot_least cs i in omega (arith, ints)
 
-pub none_less : (f : Form) (lo vs hi : List ℕ) → Inside lo vs hi → value f (lowest f.per lo hi) ≤ℤ value f vs
+none_less : (f : Form) (lo vs hi : List ℕ) → Inside lo vs hi → value f (lowest f.per lo hi) ≤ℤ value f vs
 none_less f lo vs hi i = let d = dot_least f.per i in omega (arith, ints)
 
 pub corner_inside : (cs : List ℤ) {lo vs hi : List ℕ} → length cs ≡ length lo → Inside lo vs hi → Inside lo (lowest cs lo hi) hi
@@ -56,10 +58,17 @@ module _ (x y : Amount) (f : Form) (lo hi : List ℕ) (less : Less x y f) (long 
   pub corner_less : lowest f.per lo hi ≡ corner x.per y.per lo hi
   corner_less = lowest-corner f.per x.per y.per lo hi less.per less.long long
 
-  pub least_less :
+  least_less :
       value f (lowest f.per lo hi) ≡
       pos (worth x (corner x.per y.per lo hi)) -ℤ pos (worth y (corner x.per y.per lo hi))
   least_less = value_less x y f (lowest f.per lo hi) less ∙ ap (λ vs. pos (worth x vs) -ℤ pos (worth y vs)) corner_less
+
+-- what comes to the value at the lowest corner is the least of what the form stands for
+pub exact_least : (f : Form) (b : Bounds) (r : ℤ) → length b.low ≤ length f.per → r ≡ value f (lowest_in f b) → Exact f b r
+exact_least f b r long e x y less = record {
+  reached = e ∙ least_less x y f b.low b.high less long;
+  none_less = λ vs i. rw (e, ← value_less x y f vs less) (none_less f b.low vs b.high i);
+}
 
 difference : List ℕ → List ℕ → List ℤ
 difference [] ys = []

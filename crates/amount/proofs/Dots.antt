@@ -1,5 +1,7 @@
 -- Sums of products, place by place: one step of a loop, its end, and what does not count.
-use Rattle.std.proofs.Common.{◌≡◌, ℕ, ◌+◌, ◌*◌, ◌<◌, ◌≤◌, Bool, true, false, List, [], ◌∷◌, length, get_or, drop, ℤ, pos, ◌+ℤ◌, ◌*ℤ◌, sym, refl, arith}
+use Rattle.std.proofs.Common.{◌≡◌, ℕ, ◌+◌, ◌*◌, ◌<◌, ◌≤◌, Bool, true, false, List, [], ◌∷◌, length, get_or, drop, ℤ, pos, ◌+ℤ◌, ◌*ℤ◌, sum_by, sym, refl, arith}
+use Rattle.std.specs.List.{zip}
+use Rattle.std.proofs.lemmas.List.Sums.{sum_by_from}
 use Rattle.std.proofs.lemmas.List.{drop_more, drop_all}
 use Rattle.amount.specs.Amount.{dot}
 use Rattle.amount.specs.Form.{dotℤ}
@@ -10,15 +12,12 @@ unfolding dot
 dot_nil [] = refl
 dot_nil (x ∷ xs) = refl
 
-pub dot_more :
-    (cs vs : List ℕ) (k : ℕ) → k < length cs → k < length vs →
-    dot (drop k cs) (drop k vs) ≡ get_or cs k 0 * get_or vs k 0 + dot (drop (k + 1) cs) (drop (k + 1) vs)
+-- the sum of the products, as a chain of iterators gives it
+pub sum_by-dot : (cs vs : List ℕ) → sum_by (λ (p : ℕ × ℕ). p.0 * p.1) (zip cs vs) ≡ dot cs vs
 unfolding dot
-dot_more cs vs k p q = rw (drop_more cs k 0 p, drop_more vs k 0 q)
-
-pub dot_all : (cs vs : List ℕ) (k : ℕ) → length cs ≤ k → dot (drop k cs) (drop k vs) ≡ 0
-unfolding dot
-dot_all cs vs k p = rw (drop_all k cs p)
+sum_by-dot [] vs = refl
+sum_by-dot (c ∷ cs) [] = refl
+sum_by-dot (c ∷ cs) (v ∷ vs) = let rest = sum_by-dot cs vs in omega (arith, sum_by_from (λ (p : ℕ × ℕ). p.0 * p.1) (0 + c * v) (zip cs vs))
 
 pub dotℤ_more :
     (cs : List ℤ) (vs : List ℕ) (k : ℕ) → k < length cs → k < length vs →

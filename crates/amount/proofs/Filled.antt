@@ -1,22 +1,23 @@
--- A loop that makes the list `ys` place by place in a list of n entries: its invariant, one step, and its end.
-use Rattle.std.proofs.Common.{◌≡◌, ℕ, ◌+◌, ◌<◌, ◌≤◌, List, length, get_or, set, sym, ◌∙◌, arith, length-set}
+-- An array that a closure fills, place by place, without changing anything: what its calls say of each place.
+use Rattle.std.proofs.Common.{◌≡◌, ℕ, zero, suc, ◌+◌, ◌<◌, ◌≤◌, List, length, get_or, sym, subst, ◌∙◌, ⊎_elim, arith}
 use Rattle.std.proofs.lemmas.List.{ext_get_or}
-use Rattle.std.proofs.lemmas.List.Edits.{fill_by_more}
+use Rattle.std.proofs.lemmas.Bool.{cases_lt}
+use Rattle.std.specs.Array.{IsFromFnResult, IsFromFnResultFrom}
+use Rattle.std.specs.Fn.{Called}
+use denote.Param.Members.{Mut}
 
--- the first k entries of xs are those of ys
-pub record Filled {X : Type 0} (d : X) (n : ℕ) (xs ys : List X) (k : ℕ) : Type 0 where
-  pub long : length xs ≡ n
-  pub same : (i : ℕ) → i < k → get_or xs i d ≡ get_or ys i d
+module _ {F B : Type 0} {g : Mut F (ℕ × Unit {0}) B} {f : F} {n : ℕ} {xs : List B} (d : B) (r : IsFromFnResult g f xs n) (same : (i : ℕ) (y : B) (q : F) → Called g f (i, tt) y q → q ≡ f) where
+  called_from : (i left : ℕ) → IsFromFnResultFrom g f xs i left → (k : ℕ) → i ≤ k → k < i + left → Called g f (k, tt) (get_or xs k d) f
+  called_from i zero s k p q = absurd (omega arith)
+  called_from i (suc left) s k p q =
+      let e = same i s.1 s.0 s.3 in
+      ⊎_elim
+      (λ (lt : i < k). called_from (i + 1) left (subst (λ (h : F). IsFromFnResultFrom g h xs (i + 1) left) e s.4) k (omega arith) (omega arith))
+      (λ le. let here : k ≡ i = omega arith in rw (here, s.2.1 d) (subst (λ (h : F). Called g f (i, tt) s.1 h) e s.3))
+      (cases_lt i k)
 
-module _ {X : Type 0} (d : X) (n : ℕ) (xs ys : List X) where
-  pub filled_none : length xs ≡ n → Filled d n xs ys 0
-  filled_none e = record { long = e; same = λ i h. absurd (omega arith) }
+  pub called : (k : ℕ) → k < n → Called g f (k, tt) (get_or xs k d) f
+  called k lt = called_from 0 n r.each k (omega arith) (omega arith)
 
-  pub filled_more : (k : ℕ) (v : X) → Filled d n xs ys k → k < n → v ≡ get_or ys k d → Filled d n (set xs k v) ys (k + 1)
-  filled_more k v f h e = record {
-    long = length-set xs k v ∙ f.long;
-    same = rw e (fill_by_more (λ i. get_or ys i d) xs k d (omega (arith, f.long)) f.same);
-  }
-
-  pub filled_all : (k : ℕ) → n ≤ k → length ys ≡ n → Filled d n xs ys k → xs ≡ ys
-  filled_all k h e f = ext_get_or d xs ys (f.long ∙ sym e) (λ i lt. f.same i (omega (arith, f.long)))
+  pub filled : (ys : List B) → length ys ≡ n → ((k : ℕ) → k < n → Called g f (k, tt) (get_or xs k d) f → get_or xs k d ≡ get_or ys k d) → xs ≡ ys
+  filled ys e each = ext_get_or d xs ys (r.long ∙ sym e) (λ k lt. let few : k < n = omega (arith, r.long) in each k few (called k few))

@@ -1,5 +1,5 @@
 -- A form that stands for one amount less another: what it comes to, and how it grows.
-use Rattle.std.proofs.Common.{◌≡◌, ℕ, zero, suc, ◌+◌, ◌*◌, ◌≤◌, List, [], ◌∷◌, length, get_or, drop, ℤ, pos, ◌+ℤ◌, ◌-ℤ◌, ◌*ℤ◌, sym, refl, ap, ◌∙◌, ⊎_elim, add-mul, arith}
+use Rattle.std.proofs.Common.{◌≡◌, ℕ, zero, suc, ◌+◌, ◌*◌, ◌≤◌, List, [], ◌∷◌, length, get_or, drop, ℤ, pos, ◌+ℤ◌, ◌-ℤ◌, ◌*ℤ◌, sym, refl, ap, ◌∙◌, ⊎_elim, arith}
 use borrow.Author.Differences.{up, down}
 use Rattle.std.proofs.lemmas.List.{get_or-drop, get_or_past}
 use Rattle.std.proofs.lemmas.Int.{ints}
@@ -33,11 +33,8 @@ dotℤ_first (c ∷ cs) v vs = refl
 apart_drop : (cs : List ℤ) (xs ys : List ℕ) → Apart cs xs ys → Apart (drop 1 cs) (drop 1 xs) (drop 1 ys)
 apart_drop cs xs ys h k = rw (get_or-drop 1 cs k (pos 0), get_or-drop 1 xs k 0, get_or-drop 1 ys k 0) (h (1 + k))
 
-scaled : (a b c d v : ℕ) → a + b ≡ c + d → a * v + b * v ≡ c * v + d * v
-scaled a b c d v e = sym (add-mul a b v) ∙ ap (λ n. n * v) e ∙ add-mul c d v
-
 one_apart : (a b v m n : ℕ) → (pos a -ℤ pos b) *ℤ pos v +ℤ (pos m -ℤ pos n) ≡ pos (a * v + m) -ℤ pos (b * v + n)
-one_apart a b v m n = let z = pos a -ℤ pos b in omega (arith, ints, scaled (up z) b (down z) a v (omega (arith, ints)))
+one_apart a b v m n = let z = pos a -ℤ pos b in let e : up z + b ≡ down z + a = omega (arith, ints) in omega (arith, ints, ap (λ (k : ℕ). k * v) e)
 
 dot_apart : (cs : List ℤ) (xs ys vs : List ℕ) → Apart cs xs ys → dotℤ cs vs ≡ pos (dot xs vs) -ℤ pos (dot ys vs)
 dot_apart cs xs ys [] h = rw (dotℤ_nil, dot_nil xs, dot_nil ys) refl

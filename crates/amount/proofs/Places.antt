@@ -1,5 +1,9 @@
 -- The length and the entries of the lists that are defined place by place.
 use Rattle.std.proofs.Common.{◌≡◌, ℕ, zero, suc, ◌<◌, Bool, true, false, cond, List, [], ◌∷◌, length, get_or, ℤ, pos, refl, ap, arith}
+use Rattle.std.specs.List.{zip}
+use Rattle.std.proofs.lemmas.List.{get_or-map}
+use Rattle.std.proofs.lemmas.Slice.Zip.{length-zip, get_or-zip}
+use Rattle.std.proofs.Math.ListN.{length-map}
 use Rattle.amount.specs.Known.{mask}
 use Rattle.amount.specs.Form.{each, lowest, low_or_high}
 
@@ -35,17 +39,13 @@ module _ (op : ℤ → ℤ → ℤ) where
 
 pub length-lowest : (cs : List ℤ) (lo hi : List ℕ) → length lo ≡ length cs → length hi ≡ length cs → length (lowest cs lo hi) ≡ length cs
 unfolding lowest
-length-lowest [] lo hi p q = refl
-length-lowest (c ∷ cs) [] hi p q = absurd (omega arith)
-length-lowest (c ∷ cs) (l ∷ lo) [] p q = absurd (omega arith)
-length-lowest (c ∷ cs) (l ∷ lo) (h ∷ hi) p q = ap suc (length-lowest cs lo hi (omega arith) (omega arith))
+length-lowest cs lo hi p q = simp (length-map, length-zip) (omega arith)
 
 pub get_or-lowest :
     (cs : List ℤ) (lo hi : List ℕ) (k : ℕ) → length lo ≡ length cs → length hi ≡ length cs → k < length cs →
     get_or (lowest cs lo hi) k 0 ≡ low_or_high (get_or cs k (pos 0)) (get_or lo k 0) (get_or hi k 0)
 unfolding lowest
-get_or-lowest [] lo hi k p q lt = absurd (omega arith)
-get_or-lowest (c ∷ cs) [] hi k p q lt = absurd (omega arith)
-get_or-lowest (c ∷ cs) (l ∷ lo) [] k p q lt = absurd (omega arith)
-get_or-lowest (c ∷ cs) (l ∷ lo) (h ∷ hi) zero p q lt = refl
-get_or-lowest (c ∷ cs) (l ∷ lo) (h ∷ hi) (suc k) p q lt = get_or-lowest cs lo hi k (omega arith) (omega arith) (omega arith)
+get_or-lowest cs lo hi k p q lt =
+    let pairs = length-zip lo hi in
+    let places = length-zip cs (zip lo hi) in
+    rw (get_or-map {Y = ℕ} _ (zip cs (zip lo hi)) k (pos 0, (0, 0)) 0 (omega arith), get_or-zip cs (zip lo hi) k (pos 0, (0, 0)) lt (omega arith), get_or-zip lo hi k (0, 0) (omega arith) (omega arith))

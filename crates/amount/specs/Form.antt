@@ -1,5 +1,6 @@
 -- Forms: an amount less an amount, as signed numbers. Assumes nothing: these are definitions.
-use Rattle.std.specs.Prelude.{ℕ, ◌*◌, List, [], ◌∷◌, replicate, ℤ, pos, negsuc, ◌+ℤ◌, ◌-ℤ◌, ◌*ℤ◌, neg_ℤ, ◌≤ℤ◌, slice_index_or}
+use Rattle.std.specs.Prelude.{◌≡◌, ℕ, ◌+◌, ◌*◌, ◌<◌, ◌^◌, List, [], ◌∷◌, map, replicate, ℤ, pos, negsuc, ◌+ℤ◌, ◌-ℤ◌, ◌*ℤ◌, neg_ℤ, ◌≤ℤ◌, slice_index_or}
+use Rattle.std.specs.List.{zip}
 use Rattle.amount.specs.Amount as amounts
 use Rattle.amount.specs.declared.Amount.{Amount}
 use Rattle.amount.specs.declared.Form.{Form}
@@ -25,10 +26,7 @@ low_or_high (negsuc c) l h = h
 
 -- that, for each slot
 unfoldable pub lowest : List ℤ → List ℕ → List ℕ → List ℕ
-lowest [] lo hi = []
-lowest (c ∷ cs) [] hi = []
-lowest (c ∷ cs) (l ∷ lo) [] = []
-lowest (c ∷ cs) (l ∷ lo) (h ∷ hi) = low_or_high c l h ∷ lowest cs lo hi
+lowest cs lo hi = map (λ p. low_or_high p.0 p.1.0 p.1.1) (zip cs (zip lo hi))
 
 -- what an account is at first
 abbrev pub nothing : Form
@@ -53,6 +51,14 @@ decreased f a = changed ◌-ℤ◌ f a
 pub record Within (n : ℕ) (z : ℤ) : Type 0 where
   pub low : neg_ℤ (pos n) ≤ℤ z
   pub high : z ≤ℤ pos n
+
+-- at numbers of the sizes that are met, the calls described by post give what op does
+abbrev pub Gives : (ℤ → ℤ → ℤ → Type 0) → (ℤ → ℤ → ℤ) → Type 0
+Gives post op = (z r : ℤ) (n : ℕ) → Within (2 ^ 62) z → n < 2 ^ 32 → post z (pos n) r → r ≡ op z (pos n)
+
+-- op takes a number no further than its second argument says
+abbrev pub Moves : (ℤ → ℤ → ℤ) → Type 0
+Moves op = (z : ℤ) (m n : ℕ) → Within m z → Within (m + n) (op z (pos n))
 
 -- no larger than n amounts can make it: a base is below 2 ^ 32, and cents per unit are below 2 ^ 16
 pub record UpTo (n : ℕ) (f : Form) : Type 0 where

@@ -1,32 +1,17 @@
 // The least of a form over a box of slot values, and where it lies.
-ghost use Rattle.std.specs.Prelude.{◌≡◌, ◌*◌, pos, ◌*ℤ◌};
+ghost use Rattle.std.specs.Prelude.{◌≡◌};
 ghost use Rattle.amount.specs.Corner.{CornerLaw};
-ghost use Rattle.amount.specs.Form.{Within, Bounded, value, low_or_high};
+ghost use Rattle.amount.specs.Form.{Bounded, value, low_or_high};
 ghost use Rattle.amount.specs.Least.{lowest_in, AtCorner, Belongs, Exact, lack, Short};
 
 use crate::{Bounds, Form, SLOTS};
-
-// What so many units of a slot add to a form's value.
-fn term(coefficient: i64, units: u32) -> i64
-    requires { Within (65535 * 1024) coefficient }
-    ensures is { result ≡ coefficient *ℤ pos units }
-    ensures range { Within (65535 * 1024 * 4294967295) result }
-{
-    coefficient * units as i64
-}
+use std::array;
 
 // The value of one slot at which its term of a form is least; low where it doesn't matter.
 fn low_or_high(coefficient: i64, low: u32, high: u32) -> u32
     ensures { result ≡ low_or_high coefficient low high }
 {
     if coefficient < 0 { high } else { low }
-}
-
-// By how much a value is below 0.
-fn lack(value: i64) -> u64
-    ensures { result ≡ lack value }
-{
-    if value < 0 { value.unsigned_abs() } else { 0 }
 }
 
 impl Form {
@@ -36,8 +21,8 @@ impl Form {
         ensures { result ≡ value self.now slots.now }
     {
         let mut sum = self.base;
-        for k in 0..SLOTS {
-            sum += term(self.per[k], slots[k]);
+        for (coefficient, units) in self.per.iter().zip(slots) {
+            sum += coefficient * i64::from(*units);
         }
         sum
     }
@@ -48,11 +33,7 @@ impl Form {
         ensures amounts { AtCorner self.now bounds.now result }
         ensures belongs { Belongs bounds.now result }
     {
-        let mut at = [0; SLOTS];
-        for k in 0..SLOTS {
-            at[k] = low_or_high(self.per[k], bounds.low[k], bounds.high[k]);
-        }
-        at
+        array::from_fn(|k| low_or_high(self.per[k], bounds.low[k], bounds.high[k]))
     }
 
     // The least value of the form over the box.
@@ -72,6 +53,6 @@ impl Form {
         ensures is { result ≡ lack (value self.now (lowest_in self.now bounds.now)) }
         ensures amounts { Short self.now bounds.now result }
     {
-        lack(self.least(bounds))
+        self.least(bounds).min(0).unsigned_abs()
     }
 }
