@@ -1,8 +1,9 @@
 mod Acting
 mod Back
+mod Fronts
+mod HandedOn
 mod Inversions
 mod Leasts
-mod Marks
 mod Meant
 mod Ordered
 mod Parts
@@ -10,7 +11,7 @@ mod Peeks
 mod Rates
 mod RatesAt
 pub mod Readable
-mod Sizes
+pub mod Sizes
 mod Sound
 mod Verdicts
 mod Walking

@@ -21,11 +21,15 @@ check false fault left more = wrong fault left ∷ more
 abbrev pub cut : List Wrong
 cut = wrong Cut 0 ∷ []
 
+-- one of the n that there are
+abbrev pub index : Fault → ℕ → List ℕ → (ℕ → List ℕ → List Wrong) → List Wrong
+index fault n bs k = byte bs cut (λ b r. check (nat_lt b n) fault (length bs) (k b r))
+
 abbrev pub party : ℕ → List ℕ → (ℕ → List ℕ → List Wrong) → List Wrong
-party p bs k = byte bs cut (λ b r. check (nat_lt b p) Party (length bs) (k b r))
+party p bs k = index Party p bs k
 
 abbrev pub slot : ℕ → List ℕ → (ℕ → List ℕ → List Wrong) → List Wrong
-slot q bs k = byte bs cut (λ b r. check (nat_lt b q) Slot (length bs) (k b r))
+slot q bs k = index Slot q bs k
 
 -- a slot to be set: it is there, and on this way it was not set before
 abbrev pub fresh : ℕ → List Bool → List ℕ → (ℕ → List ℕ → List Wrong) → List Wrong
@@ -51,8 +55,12 @@ value bs k = word bs cut (λ n r. check (nat_le n 1000000) Value (length bs) (k 
 abbrev pub high : ℕ → List ℕ → (List ℕ → List Wrong) → List Wrong
 high low bs k = word bs cut (λ n r. check (nat_le n 1000000 && nat_le low n) Value (length bs) (k r))
 
+-- two parties and an amount
+abbrev pub transfer : ℕ → ℕ → List ℕ → (ℕ → ℕ → List ℕ → List Wrong) → List Wrong
+transfer p q bs k = party p bs (λ f r. party p r (λ t s. amount q s (k f t)))
+
 abbrev pub payment : ℕ → ℕ → List ℕ → (List ℕ → List Wrong) → List Wrong
-payment p q bs k = party p bs (λ f r. party p r (λ t s. amount q s k))
+payment p q bs k = transfer p q bs (λ f t. k)
 
 abbrev pub branch : ℕ → List ℕ → (List ℕ → List Wrong) → List Wrong
 branch q bs k = slot q bs (λ s r. value r (λ n u. k u))
@@ -61,7 +69,7 @@ abbrev pub waiting : List ℕ → (ℕ → List ℕ → List Wrong) → List Wro
 waiting bs k = half bs cut (λ d r. byte r cut (λ m s. check (nat_le 1 m && nat_le m 16) ActCount (length r) (k m s)))
 
 abbrev pub deposit : ℕ → ℕ → List ℕ → (ℕ → ℕ → List ℕ → List Wrong) → List Wrong
-deposit p q bs k = party p bs (λ w r. party p r (λ acc s. amount q s (k w acc)))
+deposit p q bs k = transfer p q bs k
 
 abbrev pub choice : ℕ → ℕ → List Bool → List ℕ → (ℕ → ℕ → List ℕ → List Wrong) → List Wrong
 choice p q us bs k = party p bs (λ w r. fresh q us r (λ s u. value u (λ low v. high low v (k w s))))

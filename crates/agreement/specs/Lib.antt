@@ -2,9 +2,11 @@ pub mod Agreement
 pub mod Bytes
 pub mod Checks
 pub mod Fault
+pub mod Kinds
 pub mod Limits
 pub mod Meaning
 pub mod Numbers
+pub mod Pairs
 pub mod Places
 pub mod Reading
 pub mod Steps

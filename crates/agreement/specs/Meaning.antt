@@ -31,8 +31,12 @@ rates_at (suc n) (suc q) bs bad k = half bs bad (λ c r. rates_at n q r bad (λ 
 abbrev pub amount_at : {R : Type 0} → ℕ → List ℕ → R → (Amount → List ℕ → R) → R
 amount_at q bs bad k = word bs bad (λ n r. rates_at 8 q r bad (λ cs s. k (record { base = n; per = cs }) s))
 
+-- two parties and an amount
+abbrev pub transfer_at : {R : Type 0} → ℕ → ℕ → List ℕ → R → (ℕ → ℕ → Amount → List ℕ → R) → R
+transfer_at p q bs bad k = below p bs bad (λ f r. below p r bad (λ t s. amount_at q s bad (λ a u. k f t a u)))
+
 abbrev pub look_pay : ℕ → ℕ → List ℕ → Look
-look_pay p q bs = below p bs (ends []) (λ f r. below p r (ends []) (λ t s. amount_at q s (ends []) (λ a u. pays f t a u)))
+look_pay p q bs = transfer_at p q bs (ends []) pays
 
 abbrev pub look_fork : ℕ → List ℕ → Look
 look_fork q bs = below q bs (ends []) (λ s r. word r (ends []) (λ n u. forks s n u))
@@ -49,8 +53,7 @@ look p q bs =
     (cond (b == 3) (look_wait r) (ends [])))))
 
 abbrev pub look_deposit : ℕ → ℕ → List ℕ → Act
-look_deposit p q bs =
-    below p bs (no_more []) (λ w r. below p r (no_more []) (λ acc s. amount_at q s (no_more []) (λ a u. puts w acc a u)))
+look_deposit p q bs = transfer_at p q bs (no_more []) puts
 
 abbrev pub look_choice : ℕ → ℕ → List ℕ → Act
 look_choice p q bs =

@@ -43,7 +43,7 @@ verdict bs None = Ok (record { parties = slice_index bs 0; slots = slice_index b
 
 -- where an agreement that was read begins
 abbrev pub begun : code.Agreement → Spot
-begun a = record { parties = a.parties; slots = a.slots; depth = 64; bytes = a.bytes.now }
+begun a = record { parties = a.header.parties; slots = a.header.slots; depth = 64; bytes = a.bytes.now }
 
 abbrev pub answered : Result code.Agreement Refusal → Result Spot Refusal
 answered (Ok a) = Ok (begun a)

@@ -1,14 +1,17 @@
 -- How a step of reading goes with the walk that records all checks. Assumes nothing: these are definitions.
-use Rattle.std.specs.Prelude.{◌≡◌, ℕ, ◌+◌, ◌-◌, ◌*◌, Bool, false, cond, ◌&&◌, List, [], ◌∷◌, Some, None, Ok, Err, Option, Result, nat_le, nat_lt, slice_index_or}
+use Rattle.std.specs.Prelude.{◌≡◌, ℕ, ◌-◌, Bool, false, cond, List, [], ◌∷◌, Some, None, Ok, Err, Option, Result, nat_le}
 use Rattle.std.specs.Borrow.{Bor}
 use Rattle.agreement.specs.Checks.{Key, Walk, among, act, acts, walk}
+use Rattle.agreement.specs.Pairs.{marked}
 use Rattle.agreement.specs.declared.Agreement.{Agreement}
 use Rattle.agreement.specs.declared.Fault.TheVariants.{Surplus}
 use Rattle.agreement.specs.declared.Refusal.{Refusal}
 use Rattle.agreement.specs.declared.Wrong.{Wrong}
+use Rattle.agreement.specs.declared.pairs.Pairs.{Pairs}
 use Rattle.agreement.specs.declared.reading.Head.{Head}
 use Rattle.agreement.specs.declared.reading.Head.TheVariants.{Over, Pay, Fork, Wait}
 use Rattle.agreement.specs.declared.seen.Seen.{Seen}
+use Rattle.agreement.specs.declared.way.Way.{Way}
 
 abbrev pub first : List Wrong → Option Wrong
 first [] = None
@@ -27,20 +30,16 @@ onward p q next us Pay t r k = next us t r k
 onward p q next us Fork t r k = next us t r (λ t₁ s. next us t₁ s k)
 onward p q next us (Wait m) t r k = acts p q next us m [] t r (λ t₁ s. next us t₁ s k)
 
--- eight marks for each of eight parties
-abbrev pub marked : List Bool → ℕ → ℕ → Bool
-marked marks who what = (nat_lt who 8 && nat_lt what 8) && slice_index_or marks (who * 8 + what) false
-
 -- the third byte of an act completes its key
-abbrev pub alike : List Bool → List ℕ → Bool
-alike marks [] = false
-alike marks (b ∷ []) = false
-alike marks (b ∷ w ∷ []) = false
-alike marks (b ∷ w ∷ x ∷ bs) = marked marks w x
+abbrev pub alike : Pairs → List ℕ → Bool
+alike pairs [] = false
+alike pairs (b ∷ []) = false
+alike pairs (b ∷ w ∷ []) = false
+alike pairs (b ∷ w ∷ x ∷ bs) = marked pairs w x
 
 -- the marks are those of the keys of one kind
-abbrev pub Marks : ℕ → List Bool → List Key → Type 0
-Marks kind marks keys = (who what : ℕ) → marked marks who what ≡ among kind who what keys
+abbrev pub Marks : ℕ → Pairs → List Key → Type 0
+Marks kind pairs keys = (who what : ℕ) → marked pairs who what ≡ among kind who what keys
 
 pub record Keeps (seen : Seen) (keys : List Key) : Type 0 where
   pub deposits : Marks 1 seen.deposits keys
@@ -59,14 +58,14 @@ pub record Acted (p q : ℕ) (us : List Bool) (bs : List ℕ) (keys : List Key) 
   pub kept : Keeps after (key ∷ keys)
   pub goes : (k : List Bool → Key → List ℕ → List Wrong) → act p q us keys bs k ≡ k vs key rest
 
-abbrev pub ActsOn : ℕ → ℕ → List Bool → List ℕ → List Key → Seen → Result (List Bool × Bor (List ℕ)) Wrong → Type 0
-ActsOn p q us bs keys after (Ok x) = Acted p q us bs keys after x.0 x.1.now
-ActsOn p q us bs keys after (Err w) =
-    (k : List Bool → Key → List ℕ → List Wrong) → first (act p q us keys bs k) ≡ Some w
+abbrev pub ActsOn : Way → List ℕ → List Key → Seen → Result (List Bool × Bor (List ℕ)) Wrong → Type 0
+ActsOn way bs keys after (Ok x) = Acted way.header.parties way.header.slots way.used bs keys after x.0 x.1.now
+ActsOn way bs keys after (Err w) =
+    (k : List Bool → Key → List ℕ → List Wrong) → first (act way.header.parties way.header.slots way.used keys bs k) ≡ Some w
 
 -- the whole was good, and begins where the answer says; or what is wrong is the first that the walk finds
 abbrev pub Whole : List ℕ → Result Agreement Wrong → Type 0
-Whole bs (Ok a) = (walk bs ≡ []) × (bs ≡ a.parties ∷ a.slots ∷ a.bytes.now)
+Whole bs (Ok a) = (walk bs ≡ []) × (bs ≡ a.header.parties ∷ a.header.slots ∷ a.bytes.now)
 Whole bs (Err w) = first (walk bs) ≡ Some w
 
 -- the refusal of so many bytes that goes with the first fault of the walk

@@ -10,25 +10,7 @@ impl Fault {
     pub fn number(self) -> u8
         ensures { result ≡ number self }
     {
-        match self {
-            Fault::Parties => 1,
-            Fault::Slots => 2,
-            Fault::Cut => 3,
-            Fault::Kind => 4,
-            Fault::TooLarge => 5,
-            Fault::Party => 6,
-            Fault::Slot => 7,
-            Fault::Cents => 8,
-            Fault::Value => 9,
-            Fault::ActCount => 10,
-            Fault::SetTwice => 11,
-            Fault::Alike => 12,
-            Fault::Surplus => 13,
-            Fault::Message => 14,
-            Fault::Sender => 15,
-            Fault::NotClear => 16,
-            Fault::Memory => 17,
-        }
+        self as u8
     }
 }
 

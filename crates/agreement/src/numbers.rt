@@ -6,6 +6,7 @@ ghost use Rattle.agreement.specs.Meaning as meanings;
 ghost use Rattle.agreement.specs.Numbers.{Reads, Found, Front, goes, valued};
 ghost use Rattle.agreement.specs.declared.Wrong.{Wrong};
 
+use crate::header::Header;
 use amount::{Amount, SLOTS};
 
 // The first byte, and those behind it.
@@ -38,9 +39,8 @@ pub(crate) fn read_half(bytes: &[u8]) -> Option<(u16, &[u8])>
     ensures walks { (k : ℕ → List ℕ → List Wrong) → numbers.half bytes.now cut k ≡ goes result cut k }
     ensures shorter { Found result (λ x rest. length rest < length bytes.now) }
 {
-    let (low, rest) = read_byte(bytes)?;
-    let (high, rest) = read_byte(rest)?;
-    Some((low as u16 + high as u16 * 256, rest))
+    let (number, rest) = bytes.split_first_chunk()?;
+    Some((u16::from_le_bytes(*number), rest))
 }
 
 // A number of four bytes.
@@ -49,34 +49,30 @@ pub(crate) fn read_word(bytes: &[u8]) -> Option<(u32, &[u8])>
     ensures walks { (k : ℕ → List ℕ → List Wrong) → numbers.word bytes.now cut k ≡ goes result cut k }
     ensures shorter { Found result (λ x rest. length rest < length bytes.now) }
 {
-    let (first, rest) = read_byte(bytes)?;
-    let (second, rest) = read_byte(rest)?;
-    let (third, rest) = read_byte(rest)?;
-    let (fourth, rest) = read_byte(rest)?;
-    let number = u32::from_le_bytes([first, second, third, fourth]);
-    Some((number, rest))
+    let (number, rest) = bytes.split_first_chunk()?;
+    Some((u32::from_le_bytes(*number), rest))
 }
 
 // The amount with this base: the coefficients of the slots are read, the others are 0.
-fn read_rates(base: u32, bytes: &[u8], slots: u8) -> Option<(Amount, &[u8])>
-    ensures is { Reads (valued result) bytes.now (λ R bs bad k. meanings.rates_at {R = R} 8 slots bs bad (λ cs. k (record { base = base; per = cs }))) }
+fn read_rates(base: u32, bytes: &[u8], header: Header) -> Option<(Amount, &[u8])>
+    ensures is { Reads (valued result) bytes.now (λ R bs bad k. meanings.rates_at {R = R} 8 header.slots bs bad (λ cs. k (record { base = base; per = cs }))) }
     ensures shorter { Found result (λ x rest. length rest ≤ length bytes.now) }
 {
     let mut per = [0; SLOTS];
     let mut rest = bytes;
-    for slot in 0..SLOTS.min(slots as usize) {
-        let (rate, more) = read_half(rest)?;
-        per[slot] = rate;
+    for rate in &mut per[..usize::from(header.slots)] {
+        let (cents, more) = read_half(rest)?;
+        *rate = cents;
         rest = more;
     }
     Some((Amount { base, per }, rest))
 }
 
-// An amount over so many slots.
-pub(crate) fn read_amount(bytes: &[u8], slots: u8) -> Option<(Amount, &[u8])>
-    ensures is { Reads (valued result) bytes.now (λ R. meanings.amount_at {R = R} slots) }
+// An amount over the agreement's slots.
+pub(crate) fn read_amount(bytes: &[u8], header: Header) -> Option<(Amount, &[u8])>
+    ensures is { Reads (valued result) bytes.now (λ R. meanings.amount_at {R = R} header.slots) }
     ensures shorter { Found result (λ x rest. length rest < length bytes.now) }
 {
     let (base, rest) = read_word(bytes)?;
-    read_rates(base, rest, slots)
+    read_rates(base, rest, header)
 }

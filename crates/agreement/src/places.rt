@@ -1,13 +1,15 @@
 // Places in an agreement: what is there, and where it ends.
-ghost use Rattle.std.specs.Prelude.{◌≡◌, ◌≤◌, [], length};
+ghost use Rattle.std.specs.Prelude.{◌≡◌, ◌<◌, ◌≤◌, [], length};
 ghost use Rattle.agreement.specs.Meaning.{behind, look_act};
 ghost use Rattle.agreement.specs.Numbers.{Given};
 ghost use Rattle.agreement.specs.Places.{spot, moved, deeper, seen, shown, shown_if, Inside, Beside, Parts, Ranges, Steps};
 ghost use Rattle.agreement.specs.Reading.{begun};
-ghost use Rattle.agreement.specs.Places.{due, fewer, awaited, shown_act, shown_act_if, ActParts, ActRanges, Counted, ActSteps};
+ghost use Rattle.agreement.specs.Places.{due, fewer, awaited, next_act, leftover, shown_next, ActParts, ActRanges, ActSteps};
 
 mod heads;
 
+use crate::header::Header;
+use crate::kinds::{ActKind, ThingKind};
 use crate::numbers::read_byte;
 use crate::{Agreement, DEEPEST};
 use amount::Amount;
@@ -15,10 +17,9 @@ use amount::Amount;
 // A part of an agreement's bytes that starts at one of the four things, and how much deeper it may go.
 #[derive(Clone, Copy)]
 pub struct Place<'a> {
-    bytes: &'a [u8],
-    parties: u8,
-    slots: u8,
+    header: Header,
     depth: u8,
+    bytes: &'a [u8],
 }
 
 // The bytes behind a thing.
@@ -27,13 +28,10 @@ pub struct Rest<'a> {
     bytes: &'a [u8],
 }
 
-// The acts of a waiting that are still to come; depth is that of their continuations.
+// The acts of a waiting that are still to come. The place is where they stand, as deep as their continuations.
 #[derive(Clone, Copy)]
 pub struct Acts<'a> {
-    bytes: &'a [u8],
-    parties: u8,
-    slots: u8,
-    depth: u8,
+    place: Place<'a>,
     left: u8,
 }
 
@@ -60,12 +58,9 @@ pub enum Step<'a> {
     },
 }
 
-// An act, and the place of what follows it; or none is left.
+// An act, and the place of what follows it.
 #[derive(Clone, Copy)]
 pub enum Act<'a> {
-    None {
-        after: Rest<'a>,
-    },
     Deposit {
         party: u8,
         account: u8,
@@ -95,16 +90,10 @@ impl<'a> Agreement<'a> {
     pub fn start(self) -> Place<'a>
         ensures { spot result ≡ begun self.entry }
     {
-        let Agreement {
-            parties,
-            slots,
-            bytes,
-        } = self;
         Place {
-            bytes,
-            parties,
-            slots,
+            header: self.header,
             depth: DEEPEST,
+            bytes: self.bytes,
         }
     }
 }
@@ -112,16 +101,23 @@ impl<'a> Agreement<'a> {
 impl<'a> Place<'a> {
     // How many parties the agreement has.
     pub fn parties(self) -> u8
-        ensures { result ≡ self.entry.parties }
+        ensures { result ≡ self.entry.header.parties }
     {
-        self.parties
+        self.header.parties
     }
 
     // How many slots it has.
     pub fn slots(self) -> u8
-        ensures { result ≡ self.entry.slots }
+        ensures { result ≡ self.entry.header.slots }
     {
-        self.slots
+        self.header.slots
+    }
+
+    // The same place at other bytes.
+    fn at(self, bytes: &'a [u8]) -> Place<'a>
+        ensures { spot result ≡ moved (spot self.entry) bytes.now }
+    {
+        Place { bytes, ..self }
     }
 
     // The place at `rest`, one deeper.
@@ -129,9 +125,8 @@ impl<'a> Place<'a> {
         ensures { spot result ≡ deeper (spot self.entry) rest.entry.bytes.now }
     {
         Place {
-            bytes: rest.bytes,
             depth: self.depth.saturating_sub(1),
-            ..self
+            ..self.at(rest.bytes)
         }
     }
 
@@ -147,32 +142,43 @@ impl<'a> Place<'a> {
         let (kind, bytes) = read_byte(self.bytes)?;
         let after = Rest { bytes };
         let inner = self.next(after);
-        match kind {
-            0 => Some(Step::Over { after }),
-            1 => inner.payment(),
-            2 => inner.branch(),
-            3 => inner.waiting(),
-            _ => None,
+        match ThingKind::try_from(kind).ok()? {
+            ThingKind::Over => Some(Step::Over { after }),
+            ThingKind::Pay => inner.payment(),
+            ThingKind::Fork => inner.branch(),
+            ThingKind::Wait => inner.waiting(),
+        }
+    }
+
+    // An act, if it can be read.
+    fn act(self) -> Option<Act<'a>>
+        ensures is { shown_next [] result ≡ look_act self.entry.header.parties self.entry.header.slots 1 self.entry.bytes.now }
+        ensures parts { Given result (ActParts Beside (spot self.entry)) }
+        ensures ranges { Given result (ActRanges (spot self.entry)) }
+    {
+        let (kind, bytes) = read_byte(self.bytes)?;
+        let inner = self.at(bytes);
+        match ActKind::try_from(kind).ok()? {
+            ActKind::Deposit => inner.deposit(),
+            ActKind::Choice => inner.choice(),
         }
     }
 
     // What stands at the place. What can't be read is over, with nothing behind it.
+    #[tactic(auto, using(crate::proofs::Peeks::steps_mean))]
     pub fn peek(self) -> Step<'a>
         ensures is { shown result ≡ seen (spot self.entry) }
         ensures means { Steps (spot self.entry) result }
         ensures parts { Parts Inside (spot self.entry) result }
         ensures ranges { Ranges (spot self.entry) result }
     {
-        match self.thing() {
-            Some(step) => step,
-            None => Step::Over {
-                after: Rest::none(),
-            },
-        }
+        self.thing().unwrap_or(Step::Over {
+            after: Rest::none(),
+        })
     }
 
     // Where the thing at the place ends.
-    #[cycle(after_after)]
+    #[cycle(ends)]
     pub fn after(self) -> Rest<'a>
         ensures is { result.bytes.now ≡ behind (spot self.entry) }
         ensures shorter { length result.bytes.now ≤ length self.entry.bytes.now }
@@ -187,82 +193,54 @@ impl<'a> Place<'a> {
 }
 
 impl<'a> Acts<'a> {
-    // A place at these bytes, as deep as a continuation.
-    fn place(self, bytes: &'a [u8]) -> Place<'a>
-        ensures { spot result ≡ moved (due self.entry).at bytes.now }
-    {
-        let Acts {
-            parties,
-            slots,
-            depth,
-            ..
-        } = self;
-        Place {
-            bytes,
-            parties,
-            slots,
-            depth,
-        }
-    }
-
     // The acts behind the next one, whose continuation ended at `rest`.
     pub fn next(self, rest: Rest<'a>) -> Acts<'a>
         ensures { due result ≡ fewer (due self.entry) rest.entry.bytes.now }
     {
         Acts {
-            bytes: rest.bytes,
+            place: self.place.at(rest.bytes),
             left: self.left.saturating_sub(1),
-            ..self
         }
     }
 
-    // The next act, if there is one that can be read.
-    fn act(self) -> Option<Act<'a>>
-        ensures is { shown_act_if result ≡ look_act self.entry.parties self.entry.slots self.entry.left self.entry.bytes.now }
+    // The next act. What can't be read is none.
+    #[tactic(auto, using(crate::proofs::Peeks::acts_mean))]
+    pub fn peek(self) -> Option<Act<'a>>
+        ensures is { shown_next (leftover (due self.entry)) result ≡ next_act (due self.entry) }
+        ensures means { ActSteps (due self.entry) result }
         ensures parts { Given result (ActParts Beside (due self.entry).at) }
         ensures ranges { Given result (ActRanges (due self.entry).at) }
-        ensures counted { Given result (Counted self.entry.left) }
+        ensures counted { Given result (λ _. 0 < self.entry.left) }
     {
         if self.left == 0 {
-            return Some(Act::None {
-                after: Rest { bytes: self.bytes },
-            });
+            return None;
         }
-        let (kind, bytes) = read_byte(self.bytes)?;
-        let inner = self.place(bytes);
-        match kind {
-            1 => inner.deposit(),
-            2 => inner.choice(),
-            _ => None,
-        }
+        self.place.act()
     }
 
-    // The next act. What can't be read is none, with nothing behind it.
-    pub fn peek(self) -> Act<'a>
-        ensures is { shown_act result ≡ look_act self.entry.parties self.entry.slots self.entry.left self.entry.bytes.now }
-        ensures means { ActSteps (due self.entry) result }
-        ensures parts { ActParts Beside (due self.entry).at result }
-        ensures ranges { ActRanges (due self.entry).at result }
-        ensures counted { Counted self.entry.left result }
+    // What is behind the acts where there is no next one: nothing, if one is left that can't be read.
+    fn end(self) -> Rest<'a>
+        ensures { result.bytes.now ≡ leftover (due self.entry) }
     {
-        match self.act() {
-            Some(act) => act,
-            None => Act::None {
-                after: Rest::none(),
-            },
+        if self.left > 0 {
+            return Rest::none();
+        }
+        Rest {
+            bytes: self.place.bytes,
         }
     }
 
     // Where the acts end, each with its continuation.
-    #[cycle(after_after)]
+    #[cycle(ends)]
     pub fn after(self) -> Rest<'a>
         ensures is { result.bytes.now ≡ (awaited (due self.entry)).rest }
-        ensures shorter { length result.bytes.now ≤ length self.entry.bytes.now }
+        ensures shorter { length result.bytes.now ≤ length self.entry.place.bytes.now }
     {
         match self.peek() {
-            Act::None { after } => after,
-            Act::Deposit { rest, .. } => self.next(rest.after()).after(),
-            Act::Choice { rest, .. } => self.next(rest.after()).after(),
+            None => self.end(),
+            Some(Act::Deposit { rest, .. } | Act::Choice { rest, .. }) => {
+                self.next(rest.after()).after()
+            }
         }
     }
 }

@@ -1,56 +1,51 @@
 // Reading an agreement: a thing and a waiting's acts are read by two functions that call each other.
-ghost use Rattle.std.specs.Prelude.{◌≡◌, ℕ, ◌+◌, ◌-◌, ◌<◌, ◌≤◌, Bool, List, length, IfOk, OnOk};
+ghost use Rattle.std.specs.Prelude.{◌≡◌, ℕ, ◌+◌, ◌-◌, ◌<◌, ◌≤◌, Bool, List, [], length, IfOk, OnOk};
 ghost use Rattle.agreement.specs.Checks.{Key, acts, thing, walker};
 ghost use Rattle.agreement.specs.Reading.{First, Taking, answered, reading};
 ghost use Rattle.agreement.specs.Steps.{Goes, Keeps, ActsOn, Whole, counted, onward};
 ghost use Rattle.agreement.specs.declared.Wrong.{Wrong as Failed};
 
+use crate::header::{Header, MOST_PARTIES, MOST_SLOTS};
+use crate::kinds::{ActKind, ThingKind};
 use crate::numbers::read_byte;
 use crate::seen::Seen;
-use crate::steps::{read_choice, read_deposit, read_fork, read_payment, read_waiting};
+use crate::steps::{read_choice, read_fork, read_transfer, read_waiting};
+use crate::way::Way;
 use crate::{Agreement, DEEPEST, Fault, Refusal, Wrong};
+use amount::SLOTS;
 
 // The most things that an agreement may have.
 const MOST_THINGS: u16 = 512;
 
-// The way to a thing: for how many parties and slots, and which slots are set on it before.
-#[derive(Clone, Copy)]
-pub(crate) struct Way {
-    parties: u8,
-    slots: u8,
-    used: [bool; 8],
-}
-
 // What an act has before its continuation; the slots set before that are handed on.
-fn read_act<'a>(bytes: &'a [u8], way: &Way, seen: &mut Seen) -> Result<([bool; 8], &'a [u8]), Wrong>
-    requires few_parties { way.now.parties ≤ 8 }
-    requires few_slots { way.now.slots ≤ 8 }
-    ensures goes { (keys : List Key) → Keeps seen.old keys → ActsOn way.now.parties way.now.slots way.now.used bytes.now keys seen.new result }
+fn read_act<'a>(
+    bytes: &'a [u8],
+    way: &Way,
+    seen: &mut Seen,
+) -> Result<([bool; SLOTS], &'a [u8]), Wrong>
+    ensures goes { (keys : List Key) → Keeps seen.old keys → ActsOn way.now bytes.now keys seen.new result }
     ensures shorter { IfOk result (λ x. length x.1.now < length bytes.now) }
 {
     let Some((kind, rest)) = read_byte(bytes) else {
         return Err(Fault::Cut.with(0));
     };
+    let Ok(kind) = ActKind::try_from(kind) else {
+        return Err(Fault::Kind.with(bytes.len()));
+    };
+    if seen.has(kind, bytes) {
+        return Err(Fault::Alike.with(bytes.len()));
+    }
     match kind {
-        1 => {
-            if seen.has_deposit(bytes) {
-                return Err(Fault::Alike.with(bytes.len()));
-            }
-            let (party, account, rest) = read_deposit(rest, way.parties, way.slots)?;
-            seen.add_deposit(party, account);
+        ActKind::Deposit => {
+            let (party, account, rest) = read_transfer(rest, way.header)?;
+            seen.add(kind, party, account);
             Ok((way.used, rest))
         }
-        2 => {
-            if seen.has_setting(bytes) {
-                return Err(Fault::Alike.with(bytes.len()));
-            }
-            let (party, slot, rest) = read_choice(rest, way.parties, way.slots, &way.used)?;
-            seen.add_setting(party, slot);
-            let mut used = way.used;
-            used[slot as usize] = true;
-            Ok((used, rest))
+        ActKind::Choice => {
+            let (party, slot, rest) = read_choice(rest, way)?;
+            seen.add(kind, party, slot);
+            Ok((way.used_with(slot), rest))
         }
-        _ => Err(Fault::Kind.with(bytes.len())),
     }
 }
 
@@ -64,36 +59,31 @@ pub(crate) enum Head {
 }
 
 // What a thing has before its parts. `things` is how many came before it.
-fn read_head<'a>(
-    bytes: &'a [u8],
-    way: &Way,
-    depth: u8,
-    things: u16,
-) -> Result<(Head, &'a [u8]), Wrong>
-    ensures goes { (us : List Bool) (n : ℕ) → length bytes.now ≤ n → (k : ℕ → List ℕ → List Failed) → Goes result (thing way.now.parties way.now.slots us depth things bytes.now n k) (λ x. onward way.now.parties way.now.slots (walker way.now.parties way.now.slots (depth + 1) (n - 1)) us x.0 (things + 1) x.1.now k) }
+fn read_head(bytes: &[u8], header: Header, depth: u8, things: u16) -> Result<(Head, &[u8]), Wrong>
+    ensures goes { (us : List Bool) (n : ℕ) → length bytes.now ≤ n → (k : ℕ → List ℕ → List Failed) → Goes result (thing header.parties header.slots us depth things bytes.now n k) (λ x. onward header.parties header.slots (walker header.parties header.slots (depth + 1) (n - 1)) us x.0 (things + 1) x.1.now k) }
     ensures shorter { IfOk result (λ x. length x.1.now < length bytes.now) }
     ensures within { OnOk result ((depth ≤ 64) × (things < 512)) }
 {
     let Some((kind, rest)) = read_byte(bytes) else {
         return Err(Fault::Cut.with(0));
     };
-    if kind > 3 {
+    let Ok(kind) = ThingKind::try_from(kind) else {
         return Err(Fault::Kind.with(bytes.len()));
-    }
+    };
     if depth > DEEPEST || things >= MOST_THINGS {
         return Err(Fault::TooLarge.with(bytes.len()));
     }
     match kind {
-        0 => Ok((Head::Over, rest)),
-        1 => {
-            let rest = read_payment(rest, way.parties, way.slots)?;
+        ThingKind::Over => Ok((Head::Over, rest)),
+        ThingKind::Pay => {
+            let (_, _, rest) = read_transfer(rest, header)?;
             Ok((Head::Pay, rest))
         }
-        2 => {
-            let rest = read_fork(rest, way.slots)?;
+        ThingKind::Fork => {
+            let rest = read_fork(rest, header)?;
             Ok((Head::Fork, rest))
         }
-        _ => {
+        ThingKind::Wait => {
             let (count, rest) = read_waiting(rest)?;
             Ok((Head::Wait { count }, rest))
         }
@@ -109,15 +99,13 @@ pub(crate) struct Ahead<'a> {
 
 // One of the four things. What follows last, on a payment, on a fork's second side or on a waiting's day, is read in
 // turn, and what stands before that by a call.
-#[cycle(read_acts_read_thing)]
+#[cycle(things)]
 fn read_thing(ahead: &mut Ahead<'_>, way: &Way, mut depth: u8) -> Result<(), Wrong>
-    requires few_parties { way.now.parties ≤ 8 }
-    requires few_slots { way.now.slots ≤ 8 }
-    ensures goes { (n : ℕ) → length ahead.old.rest.now ≤ n → (k : ℕ → List ℕ → List Failed) → Goes result (thing way.now.parties way.now.slots way.now.used depth ahead.old.things ahead.old.rest.now n k) (λ _. k ahead.new.things ahead.new.rest.now) }
+    ensures goes { (n : ℕ) → length ahead.old.rest.now ≤ n → (k : ℕ → List ℕ → List Failed) → Goes result (thing way.now.header.parties way.now.header.slots way.now.used depth ahead.old.things ahead.old.rest.now n k) (λ _. k ahead.new.things ahead.new.rest.now) }
     ensures shorter { OnOk result (length ahead.new.rest.now < length ahead.old.rest.now) }
 {
     loop {
-        let (head, rest) = read_head(ahead.rest, way, depth, ahead.things)?;
+        let (head, rest) = read_head(ahead.rest, way.header, depth, ahead.things)?;
         ahead.rest = rest;
         ahead.things += 1;
         depth += 1;
@@ -125,37 +113,25 @@ fn read_thing(ahead: &mut Ahead<'_>, way: &Way, mut depth: u8) -> Result<(), Wro
             Head::Over => return Ok(()),
             Head::Pay => {}
             Head::Fork => read_thing(ahead, way, depth)?,
-            Head::Wait { count } => read_acts(ahead, way, depth, count, &mut Seen::none())?,
+            Head::Wait { count } => read_acts(ahead, way, depth, count)?,
         }
     }
 }
 
-// So many acts. `depth` is how deep their continuations are.
-#[cycle(read_acts_read_thing)]
-fn read_acts(
-    ahead: &mut Ahead<'_>,
-    way: &Way,
-    depth: u8,
-    count: u8,
-    seen: &mut Seen,
-) -> Result<(), Wrong>
-    requires few_parties { way.now.parties ≤ 8 }
-    requires few_slots { way.now.slots ≤ 8 }
-    ensures goes { (n : ℕ) → length ahead.old.rest.now ≤ n → (keys : List Key) → Keeps seen.old keys → (k : ℕ → List ℕ → List Failed) → Goes result (acts way.now.parties way.now.slots (walker way.now.parties way.now.slots depth n) way.now.used count keys ahead.old.things ahead.old.rest.now k) (λ _. k ahead.new.things ahead.new.rest.now) }
+// So many acts, each with its continuation. `depth` is how deep these are.
+#[cycle(things)]
+fn read_acts(ahead: &mut Ahead<'_>, way: &Way, depth: u8, count: u8) -> Result<(), Wrong>
+    ensures goes { (n : ℕ) → length ahead.old.rest.now ≤ n → (k : ℕ → List ℕ → List Failed) → Goes result (acts way.now.header.parties way.now.header.slots (walker way.now.header.parties way.now.header.slots depth n) way.now.used count [] ahead.old.things ahead.old.rest.now k) (λ _. k ahead.new.things ahead.new.rest.now) }
     ensures shorter { OnOk result (length ahead.new.rest.now ≤ length ahead.old.rest.now) }
 {
-    if count == 0 {
-        return Ok(());
+    let mut seen = Seen::none();
+    for _ in 0..count {
+        let (used, rest) = read_act(ahead.rest, way, &mut seen)?;
+        ahead.rest = rest;
+        let header = way.header;
+        read_thing(ahead, &Way { header, used }, depth)?;
     }
-    let (used, rest) = read_act(ahead.rest, way, seen)?;
-    ahead.rest = rest;
-    let inner = Way {
-        parties: way.parties,
-        slots: way.slots,
-        used,
-    };
-    read_thing(ahead, &inner, depth)?;
-    read_acts(ahead, way, depth, count - 1, seen)
+    Ok(())
 }
 
 // The whole: the number of parties, the number of slots, the first thing, and nothing behind it.
@@ -165,19 +141,19 @@ fn read_whole(bytes: &[u8]) -> Result<Agreement<'_>, Wrong>
     let Some((parties, rest)) = read_byte(bytes) else {
         return Err(Fault::Cut.with(0));
     };
-    if parties < 1 || parties > 8 {
+    if parties < 1 || parties > MOST_PARTIES {
         return Err(Fault::Parties.with(bytes.len()));
     }
     let Some((slots, first)) = read_byte(rest) else {
         return Err(Fault::Cut.with(0));
     };
-    if slots > 8 {
+    if slots > MOST_SLOTS {
         return Err(Fault::Slots.with(rest.len()));
     }
+    let header = Header { parties, slots };
     let way = Way {
-        parties,
-        slots,
-        used: [false; 8],
+        header,
+        used: [false; SLOTS],
     };
     let mut ahead = Ahead {
         rest: first,
@@ -189,8 +165,7 @@ fn read_whole(bytes: &[u8]) -> Result<Agreement<'_>, Wrong>
         return Err(Fault::Surplus.with(left));
     }
     Ok(Agreement {
-        parties,
-        slots,
+        header,
         bytes: first,
     })
 }
@@ -198,23 +173,25 @@ fn read_whole(bytes: &[u8]) -> Result<Agreement<'_>, Wrong>
 // The most bytes that an agreement may have.
 const LONGEST: usize = 16_384;
 
+// More bytes than that are wrong at the first too many.
+const TOO_LONG: Refusal = Refusal {
+    fault: Fault::Surplus,
+    place: LONGEST,
+};
+
 impl Wrong {
-    // The refusal of so many bytes: more than the most is wrong too, at the first too many.
+    // The refusal of so many bytes.
     fn among(self, length: usize) -> Refusal
         requires { self.left ≤ length }
         ensures { result ≡ counted length self }
     {
         let place = length - self.left;
-        if place <= LONGEST {
-            Refusal {
-                fault: self.fault,
-                place,
-            }
-        } else {
-            Refusal {
-                fault: Fault::Surplus,
-                place: LONGEST,
-            }
+        if place > LONGEST {
+            return TOO_LONG;
+        }
+        Refusal {
+            fault: self.fault,
+            place,
         }
     }
 }
@@ -229,9 +206,6 @@ pub fn read(bytes: &[u8]) -> Result<Agreement<'_>, Refusal>
     match read_whole(bytes) {
         Err(wrong) => Err(wrong.among(bytes.len())),
         Ok(agreement) if bytes.len() <= LONGEST => Ok(agreement),
-        Ok(_) => Err(Refusal {
-            fault: Fault::Surplus,
-            place: LONGEST,
-        }),
+        Ok(_) => Err(TOO_LONG),
     }
 }

@@ -1,29 +1,27 @@
 // Which acts were seen before in one waiting.
 ghost use Rattle.std.specs.Prelude.{◌≡◌, ◌<◌, List, [], ◌∷◌};
 ghost use Rattle.agreement.specs.Checks.{Key};
-ghost use Rattle.agreement.specs.Steps.{marked, alike, like, Keeps};
+ghost use Rattle.agreement.specs.Kinds.{act_code};
+ghost use Rattle.agreement.specs.Steps.{alike, like, Keeps};
 
-// The deposits seen, by party and account, and the settings seen, by party and slot: eight marks for each of eight parties.
+use crate::kinds::ActKind;
+use crate::pairs::Pairs;
+
+// The deposits seen, by party and account, and the settings seen, by party and slot.
 #[derive(Drop)]
 pub(crate) struct Seen {
-    deposits: [bool; 64],
-    settings: [bool; 64],
-}
-
-fn is_marked(marks: &[bool; 64], party: u8, object: u8) -> bool
-    ensures { result ≡ marked marks.now party object }
-{
-    party < 8 && object < 8 && marks[party as usize * 8 + object as usize]
+    deposits: Pairs,
+    settings: Pairs,
 }
 
 // Whether the act at the front of the bytes has the party and the account or slot of one that is marked.
-fn is_alike(marks: &[bool; 64], act: &[u8]) -> bool
-    ensures { result ≡ alike marks.now act.now }
+fn is_alike(pairs: &Pairs, act: &[u8]) -> bool
+    ensures { result ≡ alike pairs.now act.now }
 {
     let [_, party, object, ..] = act else {
         return false;
     };
-    is_marked(marks, *party, *object)
+    pairs.contains(*party, *object)
 }
 
 impl Seen {
@@ -31,37 +29,30 @@ impl Seen {
         ensures { Keeps result [] }
     {
         Seen {
-            deposits: [false; 64],
-            settings: [false; 64],
+            deposits: Pairs::none(),
+            settings: Pairs::none(),
         }
     }
 
-    // Whether there was a deposit before by the party and into the account of the act at the front of the bytes.
-    pub(crate) fn has_deposit(&self, act: &[u8]) -> bool
-        ensures { (keys : List Key) → Keeps self.now keys → result ≡ like 1 act.now keys }
+    // Whether there was an act of the kind before by the party and with the account or slot of the act at the front of
+    // the bytes.
+    pub(crate) fn has(&self, kind: ActKind, act: &[u8]) -> bool
+        ensures { (keys : List Key) → Keeps self.now keys → result ≡ like (act_code kind) act.now keys }
     {
-        is_alike(&self.deposits, act)
+        match kind {
+            ActKind::Deposit => is_alike(&self.deposits, act),
+            ActKind::Choice => is_alike(&self.settings, act),
+        }
     }
 
-    pub(crate) fn has_setting(&self, act: &[u8]) -> bool
-        ensures { (keys : List Key) → Keeps self.now keys → result ≡ like 2 act.now keys }
-    {
-        is_alike(&self.settings, act)
-    }
-
-    pub(crate) fn add_deposit(&mut self, party: u8, account: u8)
+    pub(crate) fn add(&mut self, kind: ActKind, party: u8, object: u8)
         requires party_there { party < 8 }
-        requires account_there { account < 8 }
-        ensures { (keys : List Key) → Keeps self.old keys → Keeps self.new (record { kind = 1; who = party; what = account } ∷ keys) }
+        requires object_there { object < 8 }
+        ensures { (keys : List Key) → Keeps self.old keys → Keeps self.new (record { kind = act_code kind; who = party; what = object } ∷ keys) }
     {
-        self.deposits[party as usize * 8 + account as usize] = true;
-    }
-
-    pub(crate) fn add_setting(&mut self, party: u8, slot: u8)
-        requires party_there { party < 8 }
-        requires slot_there { slot < 8 }
-        ensures { (keys : List Key) → Keeps self.old keys → Keeps self.new (record { kind = 2; who = party; what = slot } ∷ keys) }
-    {
-        self.settings[party as usize * 8 + slot as usize] = true;
+        match kind {
+            ActKind::Deposit => self.deposits.insert(party, object),
+            ActKind::Choice => self.settings.insert(party, object),
+        }
     }
 }

@@ -4,7 +4,9 @@ ghost use Rattle.agreement.specs.Checks as checks;
 ghost use Rattle.agreement.specs.Steps.{Goes};
 ghost use Rattle.agreement.specs.declared.Wrong.{Wrong as Failed};
 
+use crate::header::Header;
 use crate::numbers::{read_byte, read_half, read_word};
+use crate::way::Way;
 use crate::{Fault, Wrong};
 
 // The most cents that an amount may have as its base.
@@ -28,51 +30,50 @@ impl Fault {
     }
 }
 
-pub(crate) fn read_party(bytes: &[u8], parties: u8) -> Result<(u8, &[u8]), Wrong>
-    ensures goes { (k : ℕ → List ℕ → List Failed) → Goes result (checks.party parties bytes.now k) (λ x. k x.0 x.1.now) }
+// A number below the count of those that are there; `fault` says what is not there.
+fn read_index(bytes: &[u8], count: u8, fault: Fault) -> Result<(u8, &[u8]), Wrong>
+    ensures goes { (k : ℕ → List ℕ → List Failed) → Goes result (checks.index fault count bytes.now k) (λ x. k x.0 x.1.now) }
     ensures shorter { IfOk result (λ x. length x.1.now < length bytes.now) }
-    ensures within { IfOk result (λ x. x.0 < parties) }
+    ensures within { IfOk result (λ x. x.0 < count) }
 {
-    let Some((party, rest)) = read_byte(bytes) else {
+    let Some((index, rest)) = read_byte(bytes) else {
         return Err(Fault::Cut.with(0));
     };
-    if party >= parties {
-        return Err(Fault::Party.with(bytes.len()));
+    if index >= count {
+        return Err(fault.with(bytes.len()));
     }
-    Ok((party, rest))
+    Ok((index, rest))
 }
 
-pub(crate) fn read_slot(bytes: &[u8], slots: u8) -> Result<(u8, &[u8]), Wrong>
-    ensures goes { (k : ℕ → List ℕ → List Failed) → Goes result (checks.slot slots bytes.now k) (λ x. k x.0 x.1.now) }
+pub(crate) fn read_party(bytes: &[u8], header: Header) -> Result<(u8, &[u8]), Wrong>
+    ensures goes { (k : ℕ → List ℕ → List Failed) → Goes result (checks.party header.parties bytes.now k) (λ x. k x.0 x.1.now) }
     ensures shorter { IfOk result (λ x. length x.1.now < length bytes.now) }
+    ensures within { IfOk result (λ x. x.0 < header.parties) }
 {
-    let Some((slot, rest)) = read_byte(bytes) else {
-        return Err(Fault::Cut.with(0));
-    };
-    if slot >= slots {
-        return Err(Fault::Slot.with(bytes.len()));
-    }
-    Ok((slot, rest))
+    read_index(bytes, header.parties, Fault::Party)
+}
+
+pub(crate) fn read_slot(bytes: &[u8], header: Header) -> Result<(u8, &[u8]), Wrong>
+    ensures goes { (k : ℕ → List ℕ → List Failed) → Goes result (checks.slot header.slots bytes.now k) (λ x. k x.0 x.1.now) }
+    ensures shorter { IfOk result (λ x. length x.1.now < length bytes.now) }
+    ensures within { IfOk result (λ x. x.0 < header.slots) }
+{
+    read_index(bytes, header.slots, Fault::Slot)
 }
 
 // A slot to be set: on this way it was not set before.
-pub(crate) fn read_fresh<'a>(
-    bytes: &'a [u8],
-    slots: u8,
-    used: &[bool; 8],
-) -> Result<(u8, &'a [u8]), Wrong>
-    requires { slots ≤ 8 }
-    ensures goes { (k : ℕ → List ℕ → List Failed) → Goes result (checks.fresh slots used.now bytes.now k) (λ x. k x.0 x.1.now) }
+pub(crate) fn read_fresh<'a>(bytes: &'a [u8], way: &Way) -> Result<(u8, &'a [u8]), Wrong>
+    ensures goes { (k : ℕ → List ℕ → List Failed) → Goes result (checks.fresh way.now.header.slots way.now.used bytes.now k) (λ x. k x.0 x.1.now) }
     ensures shorter { IfOk result (λ x. length x.1.now < length bytes.now) }
-    ensures within { IfOk result (λ x. x.0 < slots) }
+    ensures within { IfOk result (λ x. x.0 < way.now.header.slots) }
 {
     let Some((slot, rest)) = read_byte(bytes) else {
         return Err(Fault::Cut.with(0));
     };
-    if slot >= slots {
+    if slot >= way.header.slots {
         return Err(Fault::Slot.with(bytes.len()));
     }
-    if used[slot as usize] {
+    if way.used[usize::from(slot)] {
         return Err(Fault::SetTwice.with(bytes.len()));
     }
     Ok((slot, rest))
@@ -107,26 +108,25 @@ pub(crate) fn read_high(bytes: &[u8], low: u32) -> Result<&[u8], Wrong>
 }
 
 // The cents per unit of each slot.
-pub(crate) fn read_rates(bytes: &[u8], slots: u8) -> Result<&[u8], Wrong>
-    ensures goes { (k : List ℕ → List Failed) → Goes result (checks.rates slots bytes.now k) (λ x. k x.now) }
+pub(crate) fn read_rates(bytes: &[u8], header: Header) -> Result<&[u8], Wrong>
+    ensures goes { (k : List ℕ → List Failed) → Goes result (checks.rates header.slots bytes.now k) (λ x. k x.now) }
     ensures shorter { IfOk result (λ x. length x.now ≤ length bytes.now) }
 {
-    let there = (slots as usize).min(bytes.len() / 2);
-    for i in 0..there {
-        let cents = bytes[2 * i] as u16 + bytes[2 * i + 1] as u16 * 256;
-        if cents > MOST_PER_UNIT {
+    let (rates, _) = bytes.as_chunks();
+    let there = rates.len().min(usize::from(header.slots));
+    for (i, rate) in rates[..there].iter().enumerate() {
+        if u16::from_le_bytes(*rate) > MOST_PER_UNIT {
             return Err(Fault::Cents.with(bytes.len() - 2 * i));
         }
     }
-    if there < slots as usize {
+    if there < usize::from(header.slots) {
         return Err(Fault::Cut.with(0));
     }
-    let (_, rest) = bytes.split_at(2 * there);
-    Ok(rest)
+    Ok(&bytes[2 * there..])
 }
 
-pub(crate) fn read_amount(bytes: &[u8], slots: u8) -> Result<&[u8], Wrong>
-    ensures goes { (k : List ℕ → List Failed) → Goes result (checks.amount slots bytes.now k) (λ x. k x.now) }
+pub(crate) fn read_amount(bytes: &[u8], header: Header) -> Result<&[u8], Wrong>
+    ensures goes { (k : List ℕ → List Failed) → Goes result (checks.amount header.slots bytes.now k) (λ x. k x.now) }
     ensures shorter { IfOk result (λ x. length x.now < length bytes.now) }
 {
     let Some((base, rest)) = read_word(bytes) else {
@@ -135,25 +135,15 @@ pub(crate) fn read_amount(bytes: &[u8], slots: u8) -> Result<&[u8], Wrong>
     if base > MOST_BASE {
         return Err(Fault::Cents.with(bytes.len()));
     }
-    read_rates(rest, slots)
-}
-
-// What a payment has before what follows it.
-pub(crate) fn read_payment(bytes: &[u8], parties: u8, slots: u8) -> Result<&[u8], Wrong>
-    ensures goes { (k : List ℕ → List Failed) → Goes result (checks.payment parties slots bytes.now k) (λ x. k x.now) }
-    ensures shorter { IfOk result (λ x. length x.now < length bytes.now) }
-{
-    let (_, rest) = read_party(bytes, parties)?;
-    let (_, rest) = read_party(rest, parties)?;
-    read_amount(rest, slots)
+    read_rates(rest, header)
 }
 
 // What a fork has before its two sides.
-pub(crate) fn read_fork(bytes: &[u8], slots: u8) -> Result<&[u8], Wrong>
-    ensures goes { (k : List ℕ → List Failed) → Goes result (checks.branch slots bytes.now k) (λ x. k x.now) }
+pub(crate) fn read_fork(bytes: &[u8], header: Header) -> Result<&[u8], Wrong>
+    ensures goes { (k : List ℕ → List Failed) → Goes result (checks.branch header.slots bytes.now k) (λ x. k x.now) }
     ensures shorter { IfOk result (λ x. length x.now < length bytes.now) }
 {
-    let (_, rest) = read_slot(bytes, slots)?;
+    let (_, rest) = read_slot(bytes, header)?;
     let (_, rest) = read_value(rest)?;
     Ok(rest)
 }
@@ -175,32 +165,26 @@ pub(crate) fn read_waiting(bytes: &[u8]) -> Result<(u8, &[u8]), Wrong>
     Ok((count, behind))
 }
 
-// What a deposit has between its kind and its continuation; its party and account are handed on.
-pub(crate) fn read_deposit(bytes: &[u8], parties: u8, slots: u8) -> Result<(u8, u8, &[u8]), Wrong>
-    ensures goes { (k : ℕ → ℕ → List ℕ → List Failed) → Goes result (checks.deposit parties slots bytes.now k) (λ x. k x.0 x.1 x.2.now) }
+// What a payment and a deposit have between their kind and what follows: two parties, which are handed on, and an amount.
+pub(crate) fn read_transfer(bytes: &[u8], header: Header) -> Result<(u8, u8, &[u8]), Wrong>
+    ensures goes { (k : ℕ → ℕ → List ℕ → List Failed) → Goes result (checks.transfer header.parties header.slots bytes.now k) (λ x. k x.0 x.1 x.2.now) }
     ensures shorter { IfOk result (λ x. length x.2.now < length bytes.now) }
-    ensures within { IfOk result (λ x. (x.0 < parties) × (x.1 < parties)) }
+    ensures within { IfOk result (λ x. (x.0 < header.parties) × (x.1 < header.parties)) }
 {
-    let (party, rest) = read_party(bytes, parties)?;
-    let (account, rest) = read_party(rest, parties)?;
-    let rest = read_amount(rest, slots)?;
-    Ok((party, account, rest))
+    let (first, rest) = read_party(bytes, header)?;
+    let (second, rest) = read_party(rest, header)?;
+    let rest = read_amount(rest, header)?;
+    Ok((first, second, rest))
 }
 
 // What a choice has between its kind and its continuation; its party and slot are handed on.
-pub(crate) fn read_choice<'a>(
-    bytes: &'a [u8],
-    parties: u8,
-    slots: u8,
-    used: &[bool; 8],
-) -> Result<(u8, u8, &'a [u8]), Wrong>
-    requires { slots ≤ 8 }
-    ensures goes { (k : ℕ → ℕ → List ℕ → List Failed) → Goes result (checks.choice parties slots used.now bytes.now k) (λ x. k x.0 x.1 x.2.now) }
+pub(crate) fn read_choice<'a>(bytes: &'a [u8], way: &Way) -> Result<(u8, u8, &'a [u8]), Wrong>
+    ensures goes { (k : ℕ → ℕ → List ℕ → List Failed) → Goes result (checks.choice way.now.header.parties way.now.header.slots way.now.used bytes.now k) (λ x. k x.0 x.1 x.2.now) }
     ensures shorter { IfOk result (λ x. length x.2.now < length bytes.now) }
-    ensures within { IfOk result (λ x. (x.0 < parties) × (x.1 < slots)) }
+    ensures within { IfOk result (λ x. (x.0 < way.now.header.parties) × (x.1 < way.now.header.slots)) }
 {
-    let (party, rest) = read_party(bytes, parties)?;
-    let (slot, rest) = read_fresh(rest, slots, used)?;
+    let (party, rest) = read_party(bytes, way.header)?;
+    let (slot, rest) = read_fresh(rest, way)?;
     let (low, rest) = read_value(rest)?;
     let rest = read_high(rest, low)?;
     Ok((party, slot, rest))

@@ -2,17 +2,13 @@
 use agreement::read;
 use std::process::Abort;
 
-#[derive(Clone, Copy, PartialEq, Eq, Debug)]
-pub(crate) enum Answer {
-    Taken,
-    // with a number and a place
-    Refused(u8, usize),
-}
+// Whether the bytes are taken; else the number and the place of the refusal.
+pub(crate) type Answer = Result<(), (u8, usize)>;
 
 pub(crate) fn answer_to(bytes: &[u8]) -> Answer {
     match read(bytes) {
-        Ok(_) => Answer::Taken,
-        Err(refusal) => Answer::Refused(refusal.fault.number(), refusal.place),
+        Ok(_) => Ok(()),
+        Err(refusal) => Err((refusal.fault.number(), refusal.place)),
     }
 }
 

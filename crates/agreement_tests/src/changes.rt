@@ -1,5 +1,4 @@
 // Agreements that are cut off, and agreements with a byte changed.
-use crate::answers::Answer::{Refused, Taken};
 use crate::answers::{Answer, answer_to, check_all, check_answer};
 use crate::refusals::REFUSALS;
 use std::alloc::Global;
@@ -8,27 +7,27 @@ use std::test::Fail;
 
 const WHOLE: [(&[u8], Answer); 3] = [
     // a payment
-    (b"\x02\x00\x01\x00\x01\x01\x00\x00\x00\x00", Taken),
+    (b"\x02\x00\x01\x00\x01\x01\x00\x00\x00\x00", Ok(())),
     // a deposit, then a setting, then a payment
     (
         b"\x02\x01\x03\x05\x00\x01\x01\x00\x00\x10\x27\x00\x00\x00\x00\x03\x14\x00\x01\
           \x02\x00\x00\x00\x00\x00\x00\x64\x00\x00\x00\x01\x00\x01\x00\x00\x00\x00\x64\x00\x00\
           \x01\x00\x01\x10\x27\x00\x00\x00\x00\x00\x00",
-        Taken,
+        Ok(()),
     ),
     // with a fork behind the setting
     (
         b"\x02\x01\x03\x05\x00\x01\x01\x00\x00\x10\x27\x00\x00\x00\x00\x03\x14\x00\x01\
           \x02\x00\x00\x00\x00\x00\x00\x69\x00\x00\x00\x02\x00\x64\x00\x00\x00\
           \x01\x00\x01\x00\x00\x00\x00\x64\x00\x00\x00\x01\x00\x01\x10\x27\x00\x00\x00\x00\x00\x00",
-        Taken,
+        Ok(()),
     ),
 ];
 
 fn check_cuts(rt: &impl Abort, table: &[(&[u8], Answer)]) {
     for (bytes, _) in table {
         for length in 0..bytes.len() {
-            check_answer(rt, &bytes[0..length], Refused(3, length));
+            check_answer(rt, &bytes[..length], Err((3, length)));
         }
     }
 }
@@ -45,7 +44,7 @@ fn check_places(rt: &impl Abort, bytes: &mut [u8]) {
         let kept = bytes[place];
         for value in 0..=255 {
             bytes[place] = value;
-            if let Refused(number, at) = answer_to(bytes) {
+            if let Err((number, at)) = answer_to(bytes) {
                 assert!(rt; 1 <= number && number <= 13 && at <= bytes.len());
             }
         }

@@ -36,20 +36,23 @@ fn the_sale_waits_for_a_deposit(rt: HostRuntime) -> Result<(), Fail> {
     let Step::Wait { day: 5, acts } = start.peek() else {
         return Err(Fail::new("no waiting until day 5"));
     };
-    let Act::Deposit {
-        party: 0,
-        account: 0,
-        amount,
-        rest,
-    } = acts.peek()
+    let Some(
+        Act::Deposit {
+            party: 0,
+            account: 0,
+            amount,
+            rest,
+        },
+    ) = acts.peek()
     else {
         return Err(Fail::new("no deposit"));
     };
     assert_eq!(rt; (amount.base, amount.per[0]), (10_000, 0));
-    let Act::None { after } = acts.next(rest.after()).peek() else {
+    let behind = acts.next(rest.after());
+    let None = behind.peek() else {
         return Err(Fail::new("a second act"));
     };
-    let Step::Over { .. } = start.next(after).peek() else {
+    let Step::Over { .. } = start.next(behind.after()).peek() else {
         return Err(Fail::new("not over on day 5"));
     };
     Ok(())
@@ -63,19 +66,21 @@ fn after_the_deposit_it_waits_for_a_choice(rt: HostRuntime) -> Result<(), Fail> 
     let Step::Wait { acts, .. } = sale.start().peek() else {
         return Err(Fail::new("no waiting"));
     };
-    let Act::Deposit { rest: place, .. } = acts.peek() else {
+    let Some(Act::Deposit { rest: place, .. }) = acts.peek() else {
         return Err(Fail::new("no deposit"));
     };
     let Step::Wait { day: 20, acts } = place.peek() else {
         return Err(Fail::new("no waiting until day 20"));
     };
-    let Act::Choice {
-        party: 0,
-        slot: 0,
-        low: 0,
-        high: 100,
-        rest,
-    } = acts.peek()
+    let Some(
+        Act::Choice {
+            party: 0,
+            slot: 0,
+            low: 0,
+            high: 100,
+            rest,
+        },
+    ) = acts.peek()
     else {
         return Err(Fail::new("no choice"));
     };

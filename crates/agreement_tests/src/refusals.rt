@@ -1,90 +1,86 @@
 // Refused agreements, each with its number and place.
-use crate::answers::Answer::Refused;
 use crate::answers::{Answer, check_all};
 
 pub(crate) const REFUSALS: [(&[u8], Answer); 32] = [
     // p is 0
-    (b"\x00", Refused(1, 0)),
+    (b"\x00", Err((1, 0))),
     // p above 8
-    (b"\x09\x00\x00", Refused(1, 0)),
+    (b"\x09\x00\x00", Err((1, 0))),
     // q above 8, and an unknown thing behind
-    (b"\x01\xff\xff", Refused(2, 1)),
+    (b"\x01\xff\xff", Err((2, 1))),
     // no byte at all
-    (b"", Refused(3, 0)),
+    (b"", Err((3, 0))),
     // only p
-    (b"\x01", Refused(3, 1)),
+    (b"\x01", Err((3, 1))),
     // one byte of the cents per unit is no 8
-    (b"\x01\x01\x01\x00\x00\x00\x00\x00\x00\xff", Refused(3, 10)),
+    (b"\x01\x01\x01\x00\x00\x00\x00\x00\x00\xff", Err((3, 10))),
     // cut within the first base
     (
         b"\x02\x01\x03\x05\x00\x01\x01\x00\x00\x10\x27",
-        Refused(3, 11),
+        Err((3, 11)),
     ),
     // the later act's account byte is missing, so it is no 12 yet
     (
         b"\x01\x00\x03\x09\x00\x02\x01\x00\x00\x01\x00\x00\x00\x00\x01\x00",
-        Refused(3, 16),
+        Err((3, 16)),
     ),
     // no such thing, and a byte behind it
-    (b"\x01\x00\xff\xff", Refused(4, 2)),
+    (b"\x01\x00\xff\xff", Err((4, 2))),
     // 3 is a thing but no act
-    (b"\x01\x00\x03\x01\x00\x01\x03\x00", Refused(4, 6)),
+    (b"\x01\x00\x03\x01\x00\x01\x03\x00", Err((4, 6))),
     // a payment from a party that is not there
-    (b"\x02\x00\x01\x02\x00\x00\x00\x00\x00\x00", Refused(6, 3)),
+    (b"\x02\x00\x01\x02\x00\x00\x00\x00\x00\x00", Err((6, 3))),
     // 6, 6, 8 and 4: the smallest place
-    (b"\x02\x00\x01\xff\xff\xff\xff\xff\xff\xff", Refused(6, 3)),
+    (b"\x02\x00\x01\xff\xff\xff\xff\xff\xff\xff", Err((6, 3))),
     // 6 within, 13 behind
-    (
-        b"\x02\x00\x01\x02\x00\x00\x00\x00\x00\x00\x00",
-        Refused(6, 3),
-    ),
+    (b"\x02\x00\x01\x02\x00\x00\x00\x00\x00\x00\x00", Err((6, 3))),
     // a deposit into an account that is not there
     (
         b"\x01\x00\x03\x01\x00\x01\x01\x00\x01\x00\x00\x00\x00\x00\x00",
-        Refused(6, 8),
+        Err((6, 8)),
     ),
     // two like acts of a party that is not there: 6 in the first one
     (
         b"\x01\x00\x03\x09\x00\x02\x01\x01\x00\x01\x00\x00\x00\x00\
           \x01\x01\x00\x01\x00\x00\x00\x00\x00",
-        Refused(6, 7),
+        Err((6, 7)),
     ),
     // 6 at the party before 11 at the slot
     (
         b"\x02\x01\x03\x09\x00\x01\x02\x00\x00\x00\x00\x00\x00\x01\x00\x00\x00\x03\x09\x00\x01\
           \x02\x02\x00\x00\x00\x00\x00\x01\x00\x00\x00\x00\x00\x00",
-        Refused(6, 22),
+        Err((6, 22)),
     ),
     // 7 at the slot before 9 at n
-    (b"\x01\x02\x02\x02\xff\xff\xff\xff\x00\x00", Refused(7, 3)),
+    (b"\x01\x02\x02\x02\xff\xff\xff\xff\x00\x00", Err((7, 3))),
     // a setting of a slot that is not there
     (
         b"\x01\x01\x03\x01\x00\x01\x02\x00\x01\x09\x00\x00\x00\x00\x00\x00\x00\x00\x00",
-        Refused(7, 8),
+        Err((7, 8)),
     ),
     // 8 at the base, and the bytes end behind it
-    (b"\x01\x00\x01\x00\x00\x00\x94\x35\x77", Refused(8, 5)),
+    (b"\x01\x00\x01\x00\x00\x00\x94\x35\x77", Err((8, 5))),
     // a base above 1,000,000,000
-    (b"\x01\x00\x01\x00\x00\x01\xca\x9a\x3b\x00", Refused(8, 5)),
+    (b"\x01\x00\x01\x00\x00\x01\xca\x9a\x3b\x00", Err((8, 5))),
     // the second slot's cents per unit above 1,000
     (
         b"\x01\x02\x01\x00\x00\x00\x00\x00\x00\xe8\x03\xe9\x03\x00",
-        Refused(8, 11),
+        Err((8, 11)),
     ),
     // high above 1,000,000
     (
         b"\x01\x01\x03\x01\x00\x01\x02\x00\x00\x00\x00\x00\x00\x41\x42\x0f\x00\x00\x00",
-        Refused(9, 13),
+        Err((9, 13)),
     ),
     // low above 1,000,000 and high below low: low's place is smaller
     (
         b"\x01\x01\x03\x01\x00\x01\x02\x00\x00\x41\x42\x0f\x00\x03\x00\x00\x00\x00\x00",
-        Refused(9, 9),
+        Err((9, 9)),
     ),
     // 17 acts, and the bytes end
-    (b"\x01\x00\x03\x01\x00\x11", Refused(10, 5)),
+    (b"\x01\x00\x03\x01\x00\x11", Err((10, 5))),
     // no act
-    (b"\x01\x00\x03\x01\x00\x00\x00", Refused(10, 5)),
+    (b"\x01\x00\x03\x01\x00\x00\x00", Err((10, 5))),
     // 17 whole and unlike acts
     (
         b"\x05\x00\x03\x01\x00\x11\x01\x00\x00\x01\x00\x00\x00\x00\x01\x00\x01\x01\x00\x00\x00\x00\
@@ -96,45 +92,45 @@ pub(crate) const REFUSALS: [(&[u8], Answer); 32] = [
           \x01\x02\x02\x01\x00\x00\x00\x00\x01\x02\x03\x01\x00\x00\x00\x00\
           \x01\x02\x04\x01\x00\x00\x00\x00\x01\x03\x00\x01\x00\x00\x00\x00\
           \x01\x03\x01\x01\x00\x00\x00\x00\x00",
-        Refused(10, 5),
+        Err((10, 5)),
     ),
     // set twice: the later setting can never be done (day 0), but stands on the way
     (
         b"\x01\x01\x03\x09\x00\x01\x02\x00\x00\x00\x00\x00\x00\x01\x00\x00\x00\x03\x00\x00\x01\
           \x02\x00\x00\x00\x00\x00\x00\x01\x00\x00\x00\x00\x00\x00",
-        Refused(11, 23),
+        Err((11, 23)),
     ),
     // two deposits by one party into one account, with unlike amounts
     (
         b"\x01\x00\x03\x09\x00\x02\x01\x00\x00\x01\x00\x00\x00\x00\
           \x01\x00\x00\x02\x00\x00\x00\x00\x00",
-        Refused(12, 14),
+        Err((12, 14)),
     ),
     // 12 before 4 behind it
     (
         b"\x01\x00\x03\x09\x00\x02\x01\x00\x00\x01\x00\x00\x00\x00\x01\x00\x00\x01\x00\x00\x00\
           \x07\x00",
-        Refused(12, 14),
+        Err((12, 14)),
     ),
     // 12 before 9 in the later act
     (
         b"\x01\x01\x03\x09\x00\x02\x02\x00\x00\x00\x00\x00\x00\x01\x00\x00\x00\x00\
           \x02\x00\x00\x03\x00\x00\x00\x02\x00\x00\x00\x00\x00",
-        Refused(12, 18),
+        Err((12, 18)),
     ),
     // the fourth act is like the second, and the fifth like the first
     (
         b"\x02\x00\x03\x09\x00\x05\x01\x00\x00\x01\x00\x00\x00\x00\x01\x00\x01\x01\x00\x00\x00\x00\
           \x01\x01\x00\x01\x00\x00\x00\x00\x01\x00\x01\x01\x00\x00\x00\x00\
           \x01\x00\x00\x01\x00\x00\x00\x00\x00",
-        Refused(12, 30),
+        Err((12, 30)),
     ),
     // a line feed behind a whole agreement
     (
         b"\x02\x01\x03\x05\x00\x01\x01\x00\x00\x10\x27\x00\x00\x00\x00\x03\x14\x00\x01\
           \x02\x00\x00\x00\x00\x00\x00\x64\x00\x00\x00\x01\x00\x01\x00\x00\x00\x00\x64\x00\x00\
           \x01\x00\x01\x10\x27\x00\x00\x00\x00\x00\x00\x0a",
-        Refused(13, 51),
+        Err((13, 51)),
     ),
 ];
 

@@ -1,5 +1,4 @@
 // How many things, how deep, how many acts and how many bytes an agreement may have.
-use crate::answers::Answer::{Refused, Taken};
 use crate::answers::{Answer, check_answer};
 use std::alloc::{AllocError, Global};
 use std::process::Abort;
@@ -43,16 +42,13 @@ const ACT: &[u8] = b"\x03\x01\x00\x01\x01\x00\x00\x00\x00\x00\x00";
 const ACT_OVER: &[u8] = b"\x03\x01\x00\x01\x01\x00\x00\x00\x00\x00\x00\x00";
 
 const DEPTHS: [(Parts, Answer); 13] = [
-    (&[(b"\x01\x00", 1), (PAYMENT, 63), (OVER, 1)], Taken),
-    (
-        &[(b"\x01\x00", 1), (PAYMENT, 64), (OVER, 1)],
-        Refused(5, 450),
-    ),
-    (&[(b"\x01\x00", 1), (PAYMENT, 64)], Refused(3, 450)),
+    (&[(b"\x01\x00", 1), (PAYMENT, 63), (OVER, 1)], Ok(())),
+    (&[(b"\x01\x00", 1), (PAYMENT, 64), (OVER, 1)], Err((5, 450))),
+    (&[(b"\x01\x00", 1), (PAYMENT, 64)], Err((3, 450))),
     // no such thing: 4 before 5
     (
         &[(b"\x01\x00", 1), (PAYMENT, 64), (b"\x04", 1)],
-        Refused(4, 450),
+        Err((4, 450)),
     ),
     // from a party that is not there: 5 before 6
     (
@@ -61,25 +57,25 @@ const DEPTHS: [(Parts, Answer); 13] = [
             (PAYMENT, 64),
             (b"\x01\x01\x00\x00\x00\x00\x00\x00", 1),
         ],
-        Refused(5, 450),
+        Err((5, 450)),
     ),
     // on first sides
-    (&[(b"\x01\x01", 1), (FORK, 63), (OVER, 64)], Taken),
-    (&[(b"\x01\x01", 1), (FORK, 64), (OVER, 65)], Refused(5, 386)),
+    (&[(b"\x01\x01", 1), (FORK, 63), (OVER, 64)], Ok(())),
+    (&[(b"\x01\x01", 1), (FORK, 64), (OVER, 65)], Err((5, 386))),
     // on second sides
-    (&[(b"\x01\x01", 1), (FORK_OVER, 63), (OVER, 1)], Taken),
+    (&[(b"\x01\x01", 1), (FORK_OVER, 63), (OVER, 1)], Ok(())),
     (
         &[(b"\x01\x01", 1), (FORK_OVER, 64), (OVER, 1)],
-        Refused(5, 449),
+        Err((5, 449)),
     ),
     // behind acts
-    (&[(b"\x01\x00", 1), (ACT, 63), (OVER, 64)], Taken),
-    (&[(b"\x01\x00", 1), (ACT, 64), (OVER, 65)], Refused(5, 706)),
+    (&[(b"\x01\x00", 1), (ACT, 63), (OVER, 64)], Ok(())),
+    (&[(b"\x01\x00", 1), (ACT, 64), (OVER, 65)], Err((5, 706))),
     // on days
-    (&[(b"\x01\x00", 1), (ACT_OVER, 63), (OVER, 1)], Taken),
+    (&[(b"\x01\x00", 1), (ACT_OVER, 63), (OVER, 1)], Ok(())),
     (
         &[(b"\x01\x00", 1), (ACT_OVER, 64), (OVER, 1)],
-        Refused(5, 769),
+        Err((5, 769)),
     ),
 ];
 
@@ -113,15 +109,15 @@ const COUNTS: [(Parts, Answer); 6] = [
     // 31 bushes have 496 things
     (
         &[(b"\x01\x01", 1), (BUSH, 31), (SLOT_PAYMENT, 15), (OVER, 1)],
-        Taken,
+        Ok(()),
     ),
     (
         &[(b"\x01\x01", 1), (BUSH, 31), (SLOT_PAYMENT, 16), (OVER, 1)],
-        Refused(5, 1882),
+        Err((5, 1882)),
     ),
     (
         &[(b"\x01\x01", 1), (BUSH, 31), (SLOT_PAYMENT, 16)],
-        Refused(3, 1882),
+        Err((3, 1882)),
     ),
     // no such thing: 4 before 5
     (
@@ -131,16 +127,16 @@ const COUNTS: [(Parts, Answer); 6] = [
             (SLOT_PAYMENT, 16),
             (b"\x04", 1),
         ],
-        Refused(4, 1882),
+        Err((4, 1882)),
     ),
     // 30 waitings have 510
     (
         &[(b"\x05\x00", 1), (SIXTEEN, 30), (PAYMENT, 1), (OVER, 1)],
-        Taken,
+        Ok(()),
     ),
     (
         &[(b"\x05\x00", 1), (SIXTEEN, 30), (PAYMENT, 2), (OVER, 1)],
-        Refused(5, 3976),
+        Err((5, 3976)),
     ),
 ];
 
@@ -150,20 +146,11 @@ fn things_are_up_to_512(rt: HostRuntime) -> Result<(), Fail> {
 }
 
 const ACTS: [(Parts, Answer); 5] = [
-    (
-        &[(b"\x05\x00\x03\x01\x00\x00", 1), (OVER, 1)],
-        Refused(10, 5),
-    ),
-    (&[(b"\x05\x00", 1), (ACT_OVER, 1), (OVER, 1)], Taken),
-    (&[(b"\x05\x00", 1), (SIXTEEN, 1), (OVER, 1)], Taken),
-    (
-        &[(b"\x05\x00\x03\x01\x00\x11", 1), (OVER, 1)],
-        Refused(10, 5),
-    ),
-    (
-        &[(b"\x05\x00\x03\x01\x00\xff", 1), (OVER, 1)],
-        Refused(10, 5),
-    ),
+    (&[(b"\x05\x00\x03\x01\x00\x00", 1), (OVER, 1)], Err((10, 5))),
+    (&[(b"\x05\x00", 1), (ACT_OVER, 1), (OVER, 1)], Ok(())),
+    (&[(b"\x05\x00", 1), (SIXTEEN, 1), (OVER, 1)], Ok(())),
+    (&[(b"\x05\x00\x03\x01\x00\x11", 1), (OVER, 1)], Err((10, 5))),
+    (&[(b"\x05\x00\x03\x01\x00\xff", 1), (OVER, 1)], Err((10, 5))),
 ];
 
 #[test]
@@ -172,13 +159,13 @@ fn acts_are_1_to_16(rt: HostRuntime) -> Result<(), Fail> {
 }
 
 const LENGTHS: [(Parts, Answer); 5] = [
-    (&[(b"\x01\x00\x00", 1), (OVER, 1)], Refused(13, 3)),
+    (&[(b"\x01\x00\x00", 1), (OVER, 1)], Err((13, 3))),
     // 16,384 bytes, and one more
-    (&[(b"\x01\x00\x00", 1), (OVER, 16_381)], Refused(13, 3)),
-    (&[(b"\x01\x00\x00", 1), (OVER, 16_382)], Refused(13, 3)),
+    (&[(b"\x01\x00\x00", 1), (OVER, 16_381)], Err((13, 3))),
+    (&[(b"\x01\x00\x00", 1), (OVER, 16_382)], Err((13, 3))),
     // something wrong before
-    (&[(b"\x01\x00\x04", 1), (OVER, 16_382)], Refused(4, 2)),
-    (&[(b"\x01\x00", 1), (PAYMENT, 2_500)], Refused(5, 450)),
+    (&[(b"\x01\x00\x04", 1), (OVER, 16_382)], Err((4, 2))),
+    (&[(b"\x01\x00", 1), (PAYMENT, 2_500)], Err((5, 450))),
 ];
 
 #[test]
@@ -193,9 +180,11 @@ const WIDE: &[u8] = b"\x01\x00\x00\x00\x00\x00\x00\
 // Eight parties and slots, a waiting with 16 deposits and 29 payments behind each of them, and `end` on its day.
 fn check_long(rt: &impl Abort, heap: Global, end: Parts, answer: Answer) -> Result<(), Fail> {
     let mut bytes = b"\x08\x08\x03\x01\x00\x10".to_vec(heap)?;
-    for i in 0..16u8 {
-        bytes.extend_from_slice(&[1, i / 8, i % 8])?;
-        add(&mut bytes, &[(b"\x00", 20), (WIDE, 29), (OVER, 1)])?;
+    for party in 0..2 {
+        for account in 0..8 {
+            bytes.extend_from_slice(&[1, party, account])?;
+            add(&mut bytes, &[(b"\x00", 20), (WIDE, 29), (OVER, 1)])?;
+        }
     }
     add(&mut bytes, end)?;
     check_answer(rt, &bytes, answer);
@@ -204,19 +193,14 @@ fn check_long(rt: &impl Abort, heap: Global, end: Parts, answer: Answer) -> Resu
 
 #[test]
 fn the_longest_has_11_753_bytes(rt: HostRuntime) -> Result<(), Fail> {
-    check_long(&rt, rt.alloc(), &[(WIDE, 30)], Refused(3, 11_752))?;
-    check_long(&rt, rt.alloc(), &[(WIDE, 30), (OVER, 1)], Taken)?;
-    check_long(
-        &rt,
-        rt.alloc(),
-        &[(WIDE, 31), (OVER, 1)],
-        Refused(5, 11_775),
-    )?;
+    check_long(&rt, rt.alloc(), &[(WIDE, 30)], Err((3, 11_752)))?;
+    check_long(&rt, rt.alloc(), &[(WIDE, 30), (OVER, 1)], Ok(()))?;
+    check_long(&rt, rt.alloc(), &[(WIDE, 31), (OVER, 1)], Err((5, 11_775)))?;
     check_long(
         &rt,
         rt.alloc(),
         &[(WIDE, 30), (OVER, 4_633)],
-        Refused(13, 11_753),
+        Err((13, 11_753)),
     )
 }
 
@@ -242,19 +226,19 @@ fn check_forks(rt: &impl Abort, heap: Global, last: &[u8], answer: Answer) -> Re
 
 #[test]
 fn forks_are_things(rt: HostRuntime) -> Result<(), Fail> {
-    check_forks(&rt, rt.alloc(), OVER, Taken)?;
+    check_forks(&rt, rt.alloc(), OVER, Ok(()))?;
     // the 513th is the last over
     check_forks(
         &rt,
         rt.alloc(),
         b"\x02\x00\x01\x00\x00\x00\x00\x00",
-        Refused(5, 1794),
+        Err((5, 1794)),
     )?;
     // the bytes end where it is due
     check_forks(
         &rt,
         rt.alloc(),
         b"\x02\x00\x01\x00\x00\x00\x00",
-        Refused(3, 1794),
+        Err((3, 1794)),
     )
 }

@@ -17,21 +17,21 @@ pub const SLOTS: usize = 8;
 //
 // An agreement has a base of at most 1,000,000,000 and at most 1,000 cents per unit, and slot values of at most
 // 1,000,000. Nothing here leans on that: every value of the field types is exact.
-#[derive(Clone, Copy, Debug, PartialEq, Eq)]
+#[derive(Clone, Copy, PartialEq, Eq, Debug)]
 pub struct Amount {
     pub base: u32,
     pub per: [u16; SLOTS],
 }
 
 // An amount less an amount: the difference of the bases, and of the cents per unit of each slot.
-#[derive(Clone, Copy, Debug, PartialEq, Eq)]
+#[derive(Clone, Copy, PartialEq, Eq, Debug)]
 pub struct Form {
     base: i64,
     per: [i64; SLOTS],
 }
 
 // A box of slot values: the lowest and the highest value of each slot.
-#[derive(Clone, Copy, Debug, PartialEq, Eq)]
+#[derive(Clone, Copy, PartialEq, Eq, Debug)]
 pub struct Bounds {
     pub low: [u32; SLOTS],
     pub high: [u32; SLOTS],

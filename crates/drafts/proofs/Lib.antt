@@ -1,4 +1,2 @@
-mod Drawn
-mod Lengths
-mod Memory
-mod Rates
+mod Acts
+mod Before

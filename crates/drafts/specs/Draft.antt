@@ -1,5 +1,5 @@
 -- What a draft stands for, and what writing it does to memory. Assumes nothing: these are definitions.
-use Rattle.std.specs.Prelude.{ℕ, cond, List, ◌++◌, length, take, drop, Ok, Err, Result, nat_le}
+use Rattle.std.specs.Prelude.{ℕ, cond, List, [], ◌∷◌, ◌++◌, length, map, take, drop, Ok, Err, Result, nat_le}
 use Rattle.amount.specs.Form as amounts
 use Rattle.agreement.specs.Agreement as value
 use Rattle.agreement.specs.Limits.{Allowed}
@@ -7,25 +7,40 @@ use Rattle.agreement.specs.Reading.{Gives, reading}
 use Rattle.agreement.specs.Writing.{written}
 use Rattle.agreement.specs.declared.Fault.TheVariants.{Memory}
 use Rattle.agreement.specs.declared.Refusal.{Refusal}
-use Rattle.drafts.specs.declared.draft.ActList.{ActList}
-use Rattle.drafts.specs.declared.draft.ActList.TheVariants.{Over, Pay', Fork', Wait', None, Deposit', Choice'}
+use Rattle.drafts.specs.declared.draft.Act.{Act}
+use Rattle.drafts.specs.declared.draft.Act.TheFolds.{fold-Act, fold-Thing}
+use Rattle.drafts.specs.declared.draft.Act.TheOpen.{Act-F, Thing-F}
 use Rattle.drafts.specs.declared.draft.Draft.{Draft}
 use Rattle.drafts.specs.declared.draft.Thing.{Thing}
 
--- the agreement that a draft's thing stands for; p and q are where its boxes lie
-abbrev mutual
-  pub drawn : Thing → value.Agreement
-  drawn Over = value.over
-  drawn (Pay' from to amount p rest) = value.pay from to (amounts.meaning amount) (drawn rest)
-  drawn (Fork' slot bound p below q otherwise) = value.fork slot bound (drawn below) (drawn otherwise)
-  drawn (Wait' day acts p rest) = value.await (drawn_acts acts) day (drawn rest)
+-- an act, where the agreement that follows it is known, before more acts
+abbrev pub act_layer : Act-F (value.Acts → value.Acts) value.Agreement → value.Acts → value.Acts
+act_layer (Act-F.Deposit party account amount rest) more =
+    value.deposit party account (amounts.meaning amount) rest more
+act_layer (Act-F.Choice party slot low high rest) more = value.choose party slot low high rest more
 
-  pub drawn_acts : ActList → value.Acts
-  drawn_acts None = value.none
-  drawn_acts (Deposit' party account amount p rest q more) =
-      value.deposit party account (amounts.meaning amount) (drawn rest) (drawn_acts more)
-  drawn_acts (Choice' party slot low high p rest q more) =
-      value.choose party slot low high (drawn rest) (drawn_acts more)
+-- acts one after another
+abbrev pub chained : List (value.Acts → value.Acts) → value.Acts
+chained [] = value.none
+chained (act ∷ more) = act (chained more)
+
+-- a thing, where what its parts stand for is known
+abbrev pub thing_layer : Thing-F (value.Acts → value.Acts) value.Agreement → value.Agreement
+thing_layer Thing-F.Over = value.over
+thing_layer (Thing-F.Pay from to amount rest) = value.pay from to (amounts.meaning amount) rest.value
+thing_layer (Thing-F.Fork slot bound below otherwise) = value.fork slot bound below.value otherwise.value
+thing_layer (Thing-F.Wait day acts rest) = value.await (chained acts.items) day rest.value
+
+-- the agreement that a draft's thing stands for
+abbrev pub drawn : Thing → value.Agreement
+drawn = fold-Thing (value.Acts → value.Acts) value.Agreement act_layer thing_layer
+
+-- a draft's act, before more acts
+abbrev pub drawn_act : Act → value.Acts → value.Acts
+drawn_act = fold-Act (value.Acts → value.Acts) value.Agreement act_layer thing_layer
+
+abbrev pub drawn_acts : List Act → value.Acts
+drawn_acts acts = chained (map drawn_act acts)
 
 -- the bytes of a draft
 abbrev pub draft_bytes : Draft → List ℕ

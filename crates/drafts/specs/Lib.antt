@@ -1,2 +1,2 @@
 pub mod Draft
-pub mod Putting
+pub mod Size

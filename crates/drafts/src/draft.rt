@@ -2,7 +2,7 @@
 use amount::Amount;
 
 // An agreement for so many parties, over so many slots.
-#[derive(Drop)]
+#[derive(PartialEq, Eq, Debug, Drop)]
 pub struct Draft {
     pub parties: u8,
     pub slots: u8,
@@ -12,7 +12,7 @@ pub struct Draft {
 // What is left to do: nothing; a payment out of one party's account to a party; two ways by a slot's value; or to wait
 // until a day for one of some acts, and what follows if none came.
 #[cycle(thing)]
-#[derive(Drop)]
+#[derive(PartialEq, Eq, Debug, Drop)]
 pub enum Thing {
     Over,
     Pay {
@@ -29,30 +29,27 @@ pub enum Thing {
     },
     Wait {
         day: u16,
-        acts: ActList,
+        acts: Vec<Act>,
         rest: Box<Thing>,
     },
 }
 
-// The acts that are awaited, each with what follows it: a party puts an amount into an account, or sets a slot to a
-// value from one bound to another.
+// An act that is awaited, with what follows it: a party puts an amount into an account, or sets a slot to a value from
+// one bound to another.
 #[cycle(thing)]
-#[derive(Drop)]
-pub enum ActList {
-    None,
+#[derive(PartialEq, Eq, Debug, Drop)]
+pub enum Act {
     Deposit {
         party: u8,
         account: u8,
         amount: Amount,
-        rest: Box<Thing>,
-        more: Box<ActList>,
+        rest: Thing,
     },
     Choice {
         party: u8,
         slot: u8,
         low: u32,
         high: u32,
-        rest: Box<Thing>,
-        more: Box<ActList>,
+        rest: Thing,
     },
 }

@@ -4,5 +4,5 @@
 mod draft;
 mod writing;
 
-pub use draft::{ActList, Draft, Thing};
+pub use draft::{Act, Draft, Thing};
 pub use writing::write;

@@ -1,120 +1,90 @@
 // Writing a draft as bytes into lent memory.
-ghost use Rattle.std.specs.Prelude.{◌≡◌, ◌+◌, ◌-◌, ◌*◌, ◌^◌, ◌≤◌, min, ◌∷◌, ◌++◌, length, slice_index};
+//
+// Each function that puts something puts it at the front of the memory that it is lent, and says how many bytes it took.
+ghost use Rattle.std.specs.Prelude.{◌≡◌, ◌+◌, ◌-◌, ◌*◌, ◌^◌, ◌≤◌, min, ◌∷◌, ◌++◌, length, drop};
 ghost use Rattle.amount.specs.Form.{meaning};
+ghost use Rattle.agreement.specs.Agreement.{none};
 ghost use Rattle.agreement.specs.Bytes.{two, four};
-ghost use Rattle.drafts.specs.Draft.{drawn, drawn_acts, draft_bytes, fitting, memory_after, ReadBack};
-ghost use Rattle.drafts.specs.Putting.{Puts, size, size_acts};
 ghost use Rattle.agreement.specs.Writing.{writing, writing_acts, amount as amount_bytes, count as act_count};
+ghost use Rattle.drafts.specs.Draft.{drawn, drawn_act, drawn_acts, draft_bytes, fitting, memory_after, ReadBack};
+ghost use Rattle.drafts.specs.Size.{size, size_acts};
 
-use crate::{ActList, Draft, Thing};
-use agreement::{Fault, Refusal};
-use amount::{Amount, SLOTS};
+use crate::{Act, Draft, Thing};
+use agreement::{ActKind, Fault, Refusal, ThingKind};
+use amount::Amount;
 
-// Puts bytes into memory from a place on, and says where they end.
-fn put(bytes: &[u8], out: &mut [u8], at: usize) -> usize
-    requires { at + length bytes.now ≤ length out.old }
-    ensures end { result ≡ at + length bytes.now }
-    ensures puts { Puts (λ more. bytes.now ++ more) at out.old result out.new }
+// Puts bytes.
+fn put<const N: usize>(bytes: [u8; N], out: &mut [u8]) -> usize
+    requires { N ≤ length out.old }
+    ensures end { result ≡ N }
+    ensures puts { out.new ≡ bytes.entry ++ drop result out.old }
 {
-    let mut end = at;
-    for byte in bytes {
-        out[end] = *byte;
-        end += 1;
+    out[..N].copy_from_slice(&bytes);
+    N
+}
+
+// Puts an amount: its base, and its cents for each unit of each slot, 0 past the last slot that an amount has.
+fn put_amount(amount: &Amount, slots: u8, out: &mut [u8]) -> usize
+    requires { 4 + 2 * slots ≤ length out.old }
+    ensures end { result ≡ 4 + 2 * slots }
+    ensures puts { out.new ≡ amount_bytes slots (meaning amount.now) (drop result out.old) }
+{
+    let mut end = put(amount.base.to_le_bytes(), out);
+    for slot in 0..usize::from(slots) {
+        let rate = amount.per.get(slot).copied().unwrap_or(0);
+        end += put(rate.to_le_bytes(), &mut out[end..]);
     }
     end
 }
 
-// Puts a number of two bytes.
-fn put_half(number: u16, out: &mut [u8], at: usize) -> usize
-    requires { at + 2 ≤ length out.old }
-    ensures end { result ≡ at + 2 }
-    ensures puts { Puts (two number) at out.old result out.new }
+// Puts what stands before the rest of a payment or a deposit: its kind, two parties and an amount.
+fn put_transfer(kind: u8, from: u8, to: u8, amount: &Amount, slots: u8, out: &mut [u8]) -> usize
+    requires { 7 + 2 * slots ≤ length out.old }
+    ensures end { result ≡ 7 + 2 * slots }
+    ensures puts { out.new ≡ kind ∷ from ∷ to ∷ amount_bytes slots (meaning amount.now) (drop result out.old) }
 {
-    put(&number.to_le_bytes(), out, at)
-}
-
-// Puts a number of four bytes.
-fn put_word(number: u32, out: &mut [u8], at: usize) -> usize
-    requires { at + 4 ≤ length out.old }
-    ensures end { result ≡ at + 4 }
-    ensures puts { Puts (four number) at out.old result out.new }
-{
-    put(&number.to_le_bytes(), out, at)
-}
-
-// The cents for each unit of a slot, 0 past the last slot that an amount has.
-fn rate(amount: &Amount, slot: u8) -> u16
-    ensures { result ≡ slice_index amount.now.per slot }
-{
-    let slot = usize::from(slot);
-    if slot < SLOTS { amount.per[slot] } else { 0 }
-}
-
-// Puts an amount: its base, and its cents for each unit of each slot.
-fn put_amount(amount: &Amount, slots: u8, out: &mut [u8], at: usize) -> usize
-    requires { at + (4 + 2 * slots) ≤ length out.old }
-    ensures end { result ≡ at + (4 + 2 * slots) }
-    ensures puts { Puts (amount_bytes slots (meaning amount.now)) at out.old result out.new }
-{
-    let mut end = put_word(amount.base, out, at);
-    for slot in 0..slots {
-        end = put_half(rate(amount, slot), out, end);
-    }
-    end
-}
-
-// Puts what stands before the rest of a payment or a deposit: two parties and an amount.
-fn put_transfer(from: u8, to: u8, amount: &Amount, slots: u8, out: &mut [u8], at: usize) -> usize
-    requires { at + (7 + 2 * slots) ≤ length out.old }
-    ensures end { result ≡ at + (7 + 2 * slots) }
-    ensures puts { Puts (λ more. 1 ∷ from ∷ to ∷ amount_bytes slots (meaning amount.now) more) at out.old result out.new }
-{
-    let next = put(&[1, from, to], out, at);
-    put_amount(amount, slots, out, next)
+    let end = put([kind, from, to], out);
+    end + put_amount(amount, slots, &mut out[end..])
 }
 
 // Puts what stands before the two ways of a fork.
-fn put_fork(slot: u8, bound: u32, out: &mut [u8], at: usize) -> usize
-    requires { at + 6 ≤ length out.old }
-    ensures end { result ≡ at + 6 }
-    ensures puts { Puts (λ more. 2 ∷ slot ∷ four bound more) at out.old result out.new }
+fn put_fork(slot: u8, bound: u32, out: &mut [u8]) -> usize
+    requires { 6 ≤ length out.old }
+    ensures end { result ≡ 6 }
+    ensures puts { out.new ≡ 2 ∷ slot ∷ four bound (drop result out.old) }
 {
-    let next = put(&[2, slot], out, at);
-    put_word(bound, out, next)
+    let end = put([ThingKind::Fork as u8, slot], out);
+    end + put(bound.to_le_bytes(), &mut out[end..])
 }
 
 // Puts what stands before the acts of a waiting.
-fn put_wait(day: u16, count: u8, out: &mut [u8], at: usize) -> usize
-    requires { at + 4 ≤ length out.old }
-    ensures end { result ≡ at + 4 }
-    ensures puts { Puts (λ more. 3 ∷ two day (count ∷ more)) at out.old result out.new }
+fn put_wait(day: u16, count: u8, out: &mut [u8]) -> usize
+    requires { 4 ≤ length out.old }
+    ensures end { result ≡ 4 }
+    ensures puts { out.new ≡ 3 ∷ two day (count ∷ drop result out.old) }
 {
-    let next = put(&[3], out, at);
-    let next = put_half(day, out, next);
-    put(&[count], out, next)
+    let mut end = put([ThingKind::Wait as u8], out);
+    end += put(day.to_le_bytes(), &mut out[end..]);
+    end + put([count], &mut out[end..])
 }
 
 // Puts what stands before the rest of a choice.
-fn put_choice(party: u8, slot: u8, low: u32, high: u32, out: &mut [u8], at: usize) -> usize
-    requires { at + 11 ≤ length out.old }
-    ensures end { result ≡ at + 11 }
-    ensures puts { Puts (λ more. 2 ∷ party ∷ slot ∷ four low (four high more)) at out.old result out.new }
+fn put_choice(party: u8, slot: u8, low: u32, high: u32, out: &mut [u8]) -> usize
+    requires { 11 ≤ length out.old }
+    ensures end { result ≡ 11 }
+    ensures puts { out.new ≡ 2 ∷ party ∷ slot ∷ four low (four high (drop result out.old)) }
 {
-    let next = put(&[2, party, slot], out, at);
-    let next = put_word(low, out, next);
-    put_word(high, out, next)
+    let mut end = put([ActKind::Choice as u8, party, slot], out);
+    end += put(low.to_le_bytes(), &mut out[end..]);
+    end + put(high.to_le_bytes(), &mut out[end..])
 }
 
 // How many acts there are, or the largest byte where there are more.
-fn count(acts: &ActList) -> u8
+#[tactic(auto, using(crate::proofs::Acts::count_drawn))]
+fn count(acts: &[Act]) -> u8
     ensures { result ≡ min (act_count (drawn_acts acts.now)) 255 }
 {
-    match acts {
-        ActList::None => 0,
-        ActList::Deposit { more, .. } | ActList::Choice { more, .. } => {
-            count(more).saturating_add(1)
-        }
-    }
+    u8::try_from(acts.len()).unwrap_or(u8::MAX)
 }
 
 // How many bytes a transfer takes before its rest.
@@ -125,7 +95,8 @@ fn transfer_size(slots: u8) -> usize
 }
 
 // How many bytes a thing takes, or the largest number where there are more: no memory is as long as that.
-#[cycle(acts_size_thing_size)]
+#[cycle(size)]
+#[tactic(auto, using(crate::proofs::Before::parts))]
 fn thing_size(thing: &Thing, slots: u8) -> usize
     ensures { result ≡ min (size slots (drawn thing.now)) (2 ^ 64 - 1) }
 {
@@ -146,38 +117,47 @@ fn thing_size(thing: &Thing, slots: u8) -> usize
 }
 
 // How many bytes acts take, in the same way.
-#[cycle(acts_size_thing_size)]
-fn acts_size(acts: &ActList, slots: u8) -> usize
+#[cycle(size)]
+fn acts_size(acts: &[Act], slots: u8) -> usize
     ensures { result ≡ min (size_acts slots (drawn_acts acts.now)) (2 ^ 64 - 1) }
 {
-    match acts {
-        ActList::None => 0,
-        ActList::Deposit { rest, more, .. } => thing_size(rest, slots)
-            .saturating_add(acts_size(more, slots))
-            .saturating_add(transfer_size(slots)),
-        ActList::Choice { rest, more, .. } => thing_size(rest, slots)
-            .saturating_add(acts_size(more, slots))
-            .saturating_add(11),
+    let mut size = 0usize;
+    for act in acts {
+        size = size.saturating_add(act_size(act, slots));
+    }
+    size
+}
+
+// How many bytes an act takes, in the same way.
+#[cycle(size)]
+#[tactic(auto, using(crate::proofs::Before::parts))]
+fn act_size(act: &Act, slots: u8) -> usize
+    ensures { result ≡ min (size_acts slots (drawn_act act.now none)) (2 ^ 64 - 1) }
+{
+    match act {
+        Act::Deposit { rest, .. } => thing_size(rest, slots).saturating_add(transfer_size(slots)),
+        Act::Choice { rest, .. } => thing_size(rest, slots).saturating_add(11),
     }
 }
 
-// Puts a thing, and says where it ends.
-#[cycle(put_acts_put_thing)]
-fn put_thing(thing: &Thing, slots: u8, out: &mut [u8], at: usize) -> usize
-    requires { at + size slots (drawn thing.now) ≤ length out.old }
-    ensures end { result ≡ at + size slots (drawn thing.now) }
-    ensures puts { Puts (writing slots (drawn thing.now)) at out.old result out.new }
+// Puts a thing.
+#[cycle(put)]
+#[tactic(auto, using(crate::proofs::Before::parts))]
+fn put_thing(thing: &Thing, slots: u8, out: &mut [u8]) -> usize
+    requires { size slots (drawn thing.now) ≤ length out.old }
+    ensures end { result ≡ size slots (drawn thing.now) }
+    ensures puts { out.new ≡ writing slots (drawn thing.now) (drop result out.old) }
 {
     match thing {
-        Thing::Over => put(&[0], out, at),
+        Thing::Over => put([ThingKind::Over as u8], out),
         Thing::Pay {
             from,
             to,
             amount,
             rest,
         } => {
-            let next = put_transfer(*from, *to, amount, slots, out, at);
-            put_thing(rest, slots, out, next)
+            let end = put_transfer(ThingKind::Pay as u8, *from, *to, amount, slots, out);
+            end + put_thing(rest, slots, &mut out[end..])
         }
         Thing::Fork {
             slot,
@@ -185,49 +165,59 @@ fn put_thing(thing: &Thing, slots: u8, out: &mut [u8], at: usize) -> usize
             below,
             otherwise,
         } => {
-            let next = put_fork(*slot, *bound, out, at);
-            let next = put_thing(below, slots, out, next);
-            put_thing(otherwise, slots, out, next)
+            let mut end = put_fork(*slot, *bound, out);
+            end += put_thing(below, slots, &mut out[end..]);
+            end + put_thing(otherwise, slots, &mut out[end..])
         }
         Thing::Wait { day, acts, rest } => {
-            let next = put_wait(*day, count(acts), out, at);
-            let next = put_acts(acts, slots, out, next);
-            put_thing(rest, slots, out, next)
+            let mut end = put_wait(*day, count(acts), out);
+            end += put_acts(acts, slots, &mut out[end..]);
+            end + put_thing(rest, slots, &mut out[end..])
         }
     }
 }
 
-// Puts acts, and says where they end.
-#[cycle(put_acts_put_thing)]
-fn put_acts(acts: &ActList, slots: u8, out: &mut [u8], at: usize) -> usize
-    requires { at + size_acts slots (drawn_acts acts.now) ≤ length out.old }
-    ensures end { result ≡ at + size_acts slots (drawn_acts acts.now) }
-    ensures puts { Puts (writing_acts slots (drawn_acts acts.now)) at out.old result out.new }
+// Puts acts.
+#[cycle(put)]
+fn put_acts(acts: &[Act], slots: u8, out: &mut [u8]) -> usize
+    requires { size_acts slots (drawn_acts acts.now) ≤ length out.old }
+    ensures end { result ≡ size_acts slots (drawn_acts acts.now) }
+    ensures puts { out.new ≡ writing_acts slots (drawn_acts acts.now) (drop result out.old) }
 {
-    match acts {
-        ActList::None => at,
-        ActList::Deposit {
+    let mut end = 0;
+    for act in acts {
+        end += put_act(act, slots, &mut out[end..]);
+    }
+    end
+}
+
+// Puts an act.
+#[cycle(put)]
+#[tactic(auto, using(crate::proofs::Before::parts))]
+fn put_act(act: &Act, slots: u8, out: &mut [u8]) -> usize
+    requires { size_acts slots (drawn_act act.now none) ≤ length out.old }
+    ensures end { result ≡ size_acts slots (drawn_act act.now none) }
+    ensures puts { out.new ≡ writing_acts slots (drawn_act act.now none) (drop result out.old) }
+{
+    match act {
+        Act::Deposit {
             party,
             account,
             amount,
             rest,
-            more,
         } => {
-            let next = put_transfer(*party, *account, amount, slots, out, at);
-            let next = put_thing(rest, slots, out, next);
-            put_acts(more, slots, out, next)
+            let end = put_transfer(ActKind::Deposit as u8, *party, *account, amount, slots, out);
+            end + put_thing(rest, slots, &mut out[end..])
         }
-        ActList::Choice {
+        Act::Choice {
             party,
             slot,
             low,
             high,
             rest,
-            more,
         } => {
-            let next = put_choice(*party, *slot, *low, *high, out, at);
-            let next = put_thing(rest, slots, out, next);
-            put_acts(more, slots, out, next)
+            let end = put_choice(*party, *slot, *low, *high, out);
+            end + put_thing(rest, slots, &mut out[end..])
         }
     }
 }
@@ -245,6 +235,6 @@ pub fn write(draft: &Draft, out: &mut [u8]) -> Result<usize, Refusal>
             place: 2,
         });
     }
-    let next = put(&[draft.parties, draft.slots], out, 0);
-    Ok(put_thing(&draft.first, draft.slots, out, next))
+    let end = put([draft.parties, draft.slots], out);
+    Ok(end + put_thing(&draft.first, draft.slots, &mut out[end..]))
 }

@@ -5,7 +5,7 @@
 mod tests {
     use agreement::read;
     use amount::Amount;
-    use drafts::{ActList, Draft, Thing, write};
+    use drafts::{Act, Draft, Thing, write};
     use std::alloc::{AllocError, Global};
     use std::test::Fail;
 
@@ -33,16 +33,14 @@ mod tests {
     }
 
     fn choice(heap: Global) -> Result<Thing, AllocError> {
-        let rest = Box::new(heap, payment(heap, cents(0, 100))?)?;
-        let more = Box::new(heap, ActList::None)?;
-        let acts = ActList::Choice {
+        let choice = Act::Choice {
             party: 0,
             slot: 0,
             low: 0,
             high: 100,
-            rest,
-            more,
+            rest: payment(heap, cents(0, 100))?,
         };
+        let acts = vec![in heap; choice]?;
         let rest = Box::new(heap, payment(heap, cents(10_000, 0))?)?;
         Ok(Thing::Wait {
             day: 20,
@@ -52,15 +50,13 @@ mod tests {
     }
 
     fn sale(heap: Global) -> Result<Draft, AllocError> {
-        let rest = Box::new(heap, choice(heap)?)?;
-        let more = Box::new(heap, ActList::None)?;
-        let acts = ActList::Deposit {
+        let deposit = Act::Deposit {
             party: 0,
             account: 0,
             amount: cents(10_000, 0),
-            rest,
-            more,
+            rest: choice(heap)?,
         };
+        let acts = vec![in heap; deposit]?;
         let rest = Box::new(heap, Thing::Over)?;
         Ok(Draft {
             parties: 2,

@@ -7,41 +7,39 @@ ghost use Rattle.judge.specs.Answer.{answer_of, judged, told};
 use agreement::{Agreement, Refusal, Step, read};
 use std::fmt;
 
-#[derive(Clone, Copy)]
-pub enum Answer {
-    Refused(Refusal),
+// What the judge finds of an agreement.
+#[derive(Clone, Copy, PartialEq, Eq, Debug)]
+pub enum Finding {
     Clear,
     NotJudged,
 }
 
-pub fn answer_to(bytes: &[u8]) -> Answer
+// What is found of the agreement that the bytes are, or why they are turned away.
+pub fn answer_to(bytes: &[u8]) -> Result<Finding, Refusal>
     ensures { result ≡ answer_of bytes.now }
 {
-    match read(bytes) {
-        Err(refusal) => Answer::Refused(refusal),
-        Ok(agreement) => judge(agreement),
-    }
+    let agreement = read(bytes)?;
+    Ok(judge(agreement))
 }
 
 // So far only an agreement that is over at once is judged.
-fn judge(agreement: Agreement<'_>) -> Answer
+fn judge(agreement: Agreement<'_>) -> Finding
     ensures { result ≡ judged (meaning (begun agreement.entry)) }
 {
     match agreement.start().peek() {
-        Step::Over { .. } => Answer::Clear,
-        _ => Answer::NotJudged,
+        Step::Over { .. } => Finding::Clear,
+        _ => Finding::NotJudged,
     }
 }
 
-impl fmt::Display for Answer {
-    ghost output = { λ a. Some (told a) };
+impl fmt::Display for Finding {
+    ghost output = { λ f. Some (told f) };
 
     fn fmt<W: fmt::Write>(&self, f: &mut fmt::Formatter<W>) -> fmt::Result {
-        match self {
-            Answer::Refused(refusal) => write!(f, "{refusal}"),
-            Answer::Clear => write!(f, "clear"),
-            Answer::NotJudged => write!(f, "not judged yet"),
-        }
+        f.write_str(match self {
+            Finding::Clear => "clear",
+            Finding::NotJudged => "not judged yet",
+        })
     }
 }
 
@@ -53,7 +51,11 @@ mod tests {
     use std::test::Fail;
 
     fn says(rt: &impl Abort, heap: Global, bytes: &[u8], text: &str) -> Result<(), Fail> {
-        assert_eq!(rt; answer_to(bytes).to_string(heap)?.as_str(), text);
+        let answer = match answer_to(bytes) {
+            Ok(finding) => finding.to_string(heap)?,
+            Err(refusal) => refusal.to_string(heap)?,
+        };
+        assert_eq!(rt; answer.as_str(), text);
         Ok(())
     }
 

@@ -10,5 +10,8 @@ use std::io::Read;
 fn main(rt: HostRuntime) -> io::Result<()> {
     let mut bytes = Vec::new(rt.alloc());
     rt.stdin().read_to_end(&mut bytes)?;
-    rt.println(answer_to(bytes.as_slice()))
+    match answer_to(&bytes) {
+        Ok(finding) => rt.println(finding),
+        Err(refusal) => rt.println(refusal),
+    }
 }

@@ -1,6 +1,5 @@
-use Rattle.std.proofs.Common.{◌≤◌, length}
 use Rattle.agreement.proofs.RatesAt.{Rated}
 use Rattle.agreement.proofs.numbers.read_rates.Given as goal
 
-abbrev pub invariant-loop-slot : goal.invariant-loop-slot
-invariant-loop-slot l = Rated l.slots l.bytes l.per l.rest l.slot × (length l.rest ≤ length l.bytes)
+abbrev pub invariant-loop-rate : goal.invariant-loop-rate
+invariant-loop-rate l = Rated l.fn.header.slots l.bytes l.rate-items l.rest l.rate-index

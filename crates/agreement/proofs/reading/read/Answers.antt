@@ -15,7 +15,8 @@ returns-in-Err c =
 pub returns-in-Ok : goal.returns-in-Ok
 returns-in-Ok c =
     let whole = c.in-Ok.ensures in
-    let a = takes_whole c.args.bytes.now c.in-Ok.agreement.bytes.now c.in-Ok.agreement.parties c.in-Ok.agreement.slots whole.0 whole.1 (omega arith) in
+    let header = c.in-Ok.agreement.header in
+    let a = takes_whole c.args.bytes.now c.in-Ok.agreement.bytes.now header.parties header.slots whole.0 whole.1 (omega arith) in
     record { is = a.is; first = a.first; taken = a.taken }
 
 pub returns-in-Ok-2 : goal.returns-in-Ok-2

@@ -1,19 +1,21 @@
-use Rattle.std.proofs.Common.{arith}
+use Rattle.std.proofs.Common.{rules}
 use Rattle.std.proofs.lemmas.Bool.{le-leb, lt-leb}
-use Rattle.agreement.proofs.Rates.{reads_there, reads_cut}
+use Rattle.agreement.proofs.Rates.{reads_cut, reads_there}
 use Rattle.agreement.proofs.steps.read_rates.Goals as goal
 
-pub returns-then-cents-gt-MOST_PER_UNIT : goal.returns-then-cents-gt-MOST_PER_UNIT
-returns-then-cents-gt-MOST_PER_UNIT c =
-    let there = reads_there c.loop-i.invariant (omega arith) (omega arith) (omega arith) (omega arith) in
-    record { goes = λ k. rw (there k, lt-leb _ 1000 c.if-cents-gt-MOST_PER_UNIT.true, c.with.ensures); shorter = tt }
+pub returns-then-from_le_bytes-gt-MOST_PER_UNIT-clause-goes : goal.returns-then-from_le_bytes-gt-MOST_PER_UNIT-clause-goes
+returns-then-from_le_bytes-gt-MOST_PER_UNIT-clause-goes c =
+    let pairs = c.as_chunks.ensures in
+    let there = reads_there _ _ _ pairs.front pairs.front_len (search rules) c.loop-i.invariant _ c.loop-i-test.true (search rules) c.from_le_bytes.ensures in
+    λ k. rw (there k, lt-leb _ 1000 c.if-from_le_bytes-gt-MOST_PER_UNIT.true) (search rules)
 
 pub loop-i-preserved : goal.loop-i-preserved
 loop-i-preserved c =
-    let there = reads_there c.loop-i.invariant (omega arith) (omega arith) (omega arith) (omega arith) in
-    record { on = λ k. rw (there k, le-leb _ 1000 c.if-cents-gt-MOST_PER_UNIT.false) }
+    let pairs = c.as_chunks.ensures in
+    let there = reads_there _ _ _ pairs.front pairs.front_len (search rules) c.loop-i.invariant _ c.loop-i-test.true (search rules) c.from_le_bytes.ensures in
+    record { on = λ k. rw (there k, le-leb _ 1000 c.if-from_le_bytes-gt-MOST_PER_UNIT.false) }
 
-pub returns-then-there-slots : goal.returns-then-there-slots
-returns-then-there-slots c =
-    let none = reads_cut c.loop-i.invariant (omega arith) (omega arith) in
-    record { goes = λ k. rw (none k, c.with-then-there-slots.ensures); shorter = tt }
+pub returns-then-there-from-clause-goes : goal.returns-then-there-from-clause-goes
+returns-then-there-from-clause-goes c =
+    let pairs = c.as_chunks.ensures in
+    λ k. rw (reads_cut _ _ _ pairs.front pairs.front_len (search rules) c.loop-i.invariant c.loop-i.auto.i-end c.loop-i-test.false (search rules) k) (search rules)

@@ -1,9 +1,7 @@
-use Rattle.std.proofs.Common.{◌≡◌, ℕ, ◌+◌, ◌-◌, ◌*◌, List, drop}
-use Rattle.drafts.specs.Putting.{put_at}
-use Rattle.agreement.specs.Writing.{rates}
+use Rattle.std.proofs.Common.{◌≡◌, ◌+◌, ◌*◌, drop}
+use Rattle.amount.specs.Form.{meaning}
+use Rattle.agreement.specs.Writing.{amount}
 use Rattle.drafts.proofs.writing.put_amount.Given as goal
 
 abbrev pub invariant-loop-slot : goal.invariant-loop-slot
-invariant-loop-slot l =
-    (l.end ≡ l.initial.end + 2 * l.slot) ×
-    ((more : List ℕ) → put_at l.initial.end (rates l.slots l.amount.per more) l.initial.out ≡ put_at l.end (rates (l.slots - l.slot) (drop l.slot l.amount.per) more) l.out)
+invariant-loop-slot l = (l.end ≡ 4 + 2 * l.slot) × (l.out ≡ amount l.slot (meaning l.amount) (drop l.end l.fn.out))

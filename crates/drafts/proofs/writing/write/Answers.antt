@@ -1,23 +1,23 @@
 -- What was put fills the front of memory, and is read back.
-use Rattle.std.proofs.Common.{◌≡◌, true, leb, [], length, Ok, sym, ap, ◌∙◌, arith, le-leb}
-use Rattle.drafts.specs.Draft.{drawn, draft_bytes}
+use Rattle.std.proofs.Common.{◌≡◌, ◌+◌, ◌∷◌, ◌++◌, true, leb, length, drop, Ok, ap, ◌∙◌, arith, le-leb}
 use Rattle.agreement.specs.Writing.{writing}
-use Rattle.drafts.proofs.Memory.{put_none}
 use Rattle.agreement.proofs.Readable.{gives_written}
+use Rattle.drafts.specs.Draft.{drawn, draft_bytes}
+use Rattle.drafts.proofs.Before.{put_behind, counts_before, writing_before}
 use Rattle.drafts.proofs.writing.write.Goals as goal
 
 pub returns : goal.returns
 returns c =
-    let draft = c.args.draft.now in
+    let d = c.args.draft.now in
     let old = c.args.out.now in
-    let fits : leb (length (draft_bytes draft)) (length old) ≡ true = le-leb (length (draft_bytes draft)) (length old) (omega arith) in
+    let n = c.put_thing.result in
+    let end : c.put-end.result + n ≡ length (draft_bytes d) = omega arith in
+    let fits : leb (length (draft_bytes d)) (length old) ≡ true = le-leb (length (draft_bytes d)) (length old) (omega arith) in
     let filled =
-    c.put-next.ensures.puts (writing draft.slots (drawn draft.first) []) ∙
-    c.put_thing.ensures.puts [] ∙
-    put_none c.put_thing.result c.put_thing.new.out in
+    put_behind (writing d.slots (drawn d.first)) _ _ (counts_before d.parties d.slots) (omega arith) c.put-end.ensures.puts c.put_thing.ensures.puts ∙
+    ap (λ xs. d.parties ∷ d.slots ∷ xs) ((writing_before d.slots (drawn d.first)).before (drop (c.put-end.result + n) old)) in
     record {
       answer = rw fits (ap Ok (omega arith));
-      memory = rw fits (sym filled);
-      back = λ allowed.
-          rw (← filled) (gives_written draft.parties draft.slots (drawn draft.first) _ c.put_thing.result (omega arith) allowed);
+      memory = rw fits (filled ∙ ap (λ k. draft_bytes d ++ drop k old) end);
+      back = λ allowed. rw filled (gives_written d.parties d.slots (drawn d.first) _ (c.put-end.result + n) end allowed);
     }

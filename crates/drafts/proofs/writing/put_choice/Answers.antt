@@ -1,9 +1,0 @@
-use Rattle.std.proofs.Common.{◌∙◌, rules}
-use Rattle.agreement.specs.Bytes.{four}
-use Rattle.drafts.proofs.writing.put_choice.Goals as goal
-
-pub returns : goal.returns
-returns c = record {
-  end = search rules;
-  puts = λ more. c.put-next.ensures.puts (four c.args.low (four c.args.high more)) ∙ c.put_word-next.ensures.puts (four c.args.high more) ∙ c.put_word.ensures.puts more;
-}
