@@ -4,8 +4,9 @@ use Rattle.agreement.specs.Agreement.{Agreement, Acts}
 use Rattle.agreement.specs.Meaning.{Spot, Part, Awaited, look_act, act_then, meant, acts_meant, look_then}
 use Rattle.agreement.specs.Numbers.{Given}
 use Rattle.agreement.specs.Places.{look_at, seen, shown, shown_next, Due, awaited, next_act, leftover, Inside, Beside, Means, Mean, Parts, ActParts, Steps, ActSteps}
-use Rattle.agreement.specs.declared.places.Act.{Act}
-use Rattle.agreement.specs.declared.places.Act.TheVariants.{Deposit, Choice}
+use Rattle.agreement.specs.declared.act.Act.{Act}
+use Rattle.agreement.specs.declared.act.Act.TheVariants.{Deposit, Choice}
+use Rattle.agreement.specs.declared.places.Place.{Place}
 use Rattle.agreement.specs.declared.places.Step.{Step}
 use Rattle.agreement.specs.declared.places.Step.TheVariants.{Over, Pay, Fork, Wait}
 
@@ -45,13 +46,13 @@ module _ (d : Due) where
   abbrev more : List ℕ → Awaited
   more = acts_meant d.at.parties d.at.slots follow (d.left - 1)
 
-  whole_acts : (r : Option Act) → shown_next (leftover d) r ≡ next_act d → awaited d ≡ act_then follow more (shown_next (leftover d) r)
+  whole_acts : (r : Option (Act Place)) → shown_next (leftover d) r ≡ next_act d → awaited d ≡ act_then follow more (shown_next (leftover d) r)
   whole_acts r e = acts_seen d.at.parties d.at.slots follow d.left d.at.bytes ∙ ap (act_then follow more) (sym e)
 
   mean : (a : Acts) (bs : List ℕ) → awaited d ≡ record { what = a; rest = bs } → Mean d a bs
   mean a bs e = record { what = ap (λ x. x.what) e; rest = ap (λ x. x.rest) e }
 
-  pub acts_mean : (r : Option Act) → shown_next (leftover d) r ≡ next_act d → Given r (ActParts Beside d.at) → ActSteps d r
+  pub acts_mean : (r : Option (Act Place)) → shown_next (leftover d) r ≡ next_act d → Given r (ActParts Beside d.at) → ActSteps d r
   acts_mean None e b = mean _ _ (whole_acts None e)
   acts_mean (Some (Deposit party account amount rest)) e b =
       mean _ _ (rw (whole_acts (Some (Deposit party account amount rest)) e, b.parties, b.slots, b.depth) refl)

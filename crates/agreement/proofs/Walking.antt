@@ -24,32 +24,32 @@ module _ {p q : ℕ} {us : List Bool} {d m t : ℕ} {bs : List ℕ} {i : ℕ} {s
   then : ℕ → (ℕ → List ℕ → List Wrong) → List Bool → Key → List ℕ → List Wrong
   then n k vs x r = thing p q vs d u r n (λ t₁ s. acts p q (walker p q d n) us (m - (i + 1)) (x ∷ came.keys) t₁ s k)
 
-  next_act : (n : ℕ) → length bs ≤ n → (k : ℕ → List ℕ → List Wrong) → acts p q (walker p q d n) us m [] t bs k ≡ act p q us came.keys rest (then n k)
+  act_next : (n : ℕ) → length bs ≤ n → (k : ℕ → List ℕ → List Wrong) → acts p q (walker p q d n) us m [] t bs k ≡ act p q us came.keys rest (then n k)
   unfolding then
-  next_act n h k = let e : m - i ≡ suc (m - (i + 1)) = omega arith in rw (came.walks n h k, e)
+  act_next n h k = let e : m - i ≡ suc (m - (i + 1)) = omega arith in rw (came.walks n h k, e)
 
   -- the head of the next act is wrong
   pub act_wrong :
       {w : Wrong} → ((g : List Bool → Key → List ℕ → List Wrong) → first (act p q us came.keys rest g) ≡ Some w) →
       (n : ℕ) → length bs ≤ n → (k : ℕ → List ℕ → List Wrong) → first (acts p q (walker p q d n) us m [] t bs k) ≡ Some w
-  act_wrong wrong n h k = rw (next_act n h k) (wrong (then n k))
+  act_wrong wrong n h k = rw (act_next n h k) (wrong (then n k))
 
   module _ {after : Seen} {vs : List Bool} {r : List ℕ} (acted : Acted p q us rest came.keys after vs r) (less : length r < length rest) where
     behind : (n : ℕ) → length bs ≤ n → length r ≤ n
     behind n h = omega (arith, came.shorter)
 
-    next_thing :
+    thing_next :
         (n : ℕ) → length bs ≤ n → (k : ℕ → List ℕ → List Wrong) →
         acts p q (walker p q d n) us m [] t bs k
         ≡ thing p q vs d u r n (λ t₁ s. acts p q (walker p q d n) us (m - (i + 1)) (acted.key ∷ came.keys) t₁ s k)
     unfolding then
-    next_thing n h k = next_act n h k ∙ acted.goes (then n k)
+    thing_next n h k = act_next n h k ∙ acted.goes (then n k)
 
     -- what follows it is wrong
     pub thing_wrong :
         {w : Wrong} → ((n : ℕ) → length r ≤ n → (g : ℕ → List ℕ → List Wrong) → first (thing p q vs d u r n g) ≡ Some w) →
         (n : ℕ) → length bs ≤ n → (k : ℕ → List ℕ → List Wrong) → first (acts p q (walker p q d n) us m [] t bs k) ≡ Some w
-    thing_wrong wrong n h k = rw (next_thing n h k) (wrong n (behind n h) _)
+    thing_wrong wrong n h k = rw (thing_next n h k) (wrong n (behind n h) _)
 
     pub acts_come_more :
         {v : ℕ} {s : List ℕ} → length s < length r →
@@ -59,7 +59,7 @@ module _ {p q : ℕ} {us : List Bool} {d m t : ℕ} {bs : List ℕ} {i : ℕ} {s
       keys = acted.key ∷ came.keys;
       kept = acted.kept;
       shorter = omega (arith, came.shorter);
-      walks = λ n h k. next_thing n h k ∙ walks n (behind n h) _;
+      walks = λ n h k. thing_next n h k ∙ walks n (behind n h) _;
     }
 
 few_kinds : (kind : ThingKind) → thing_code kind < 4
@@ -82,3 +82,24 @@ pub record Comes (p q : ℕ) (us : List Bool) (d t : ℕ) (bs : List ℕ) (e u :
   pub deeper : d ≤ e
   pub shorter : length rest + (e - d) ≤ length bs
   pub walks : (n : ℕ) (k : ℕ → List ℕ → List Wrong) → length bs ≤ n → thing p q us d t bs n k ≡ thing p q us e u rest (n - (e - d)) k
+
+pub came_enough : {p q : ℕ} {us : List Bool} {d t : ℕ} {bs : List ℕ} {e u : ℕ} {rest : List ℕ} → Comes p q us d t bs e u rest →
+    (n : ℕ) → length bs ≤ n → length rest ≤ n - (e - d)
+came_enough c n h = let short = c.shorter in omega arith
+
+-- one deeper
+pub comes_more : {p q : ℕ} {us : List Bool} {d t : ℕ} {bs : List ℕ} {e u : ℕ} {rest : List ℕ} (v : ℕ) (more : List ℕ) →
+    Comes p q us d t bs e u rest → length more < length rest →
+    ((n : ℕ) (k : ℕ → List ℕ → List Wrong) → length rest ≤ n → thing p q us e u rest n k ≡ thing p q us (e + 1) v more (n - 1) k) →
+    Comes p q us d t bs (e + 1) v more
+comes_more {d = d} {bs = bs} {e = e} {rest = rest} v more c less step =
+    let deep = c.deeper in
+    let short = c.shorter in
+    record {
+      deeper = omega arith;
+      shorter = omega arith;
+      walks = λ n k h.
+          let enough = came_enough c n h in
+          let same : n - (e - d) - 1 ≡ n - (e + 1 - d) = omega arith in
+          rw (c.walks n k h, step (n - (e - d)) k enough, same);
+    }

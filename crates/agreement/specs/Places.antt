@@ -11,8 +11,8 @@ use Rattle.agreement.specs.declared.places.Place.{Place}
 use Rattle.agreement.specs.declared.places.Acts.{Acts}
 use Rattle.agreement.specs.declared.places.Step.{Step}
 use Rattle.agreement.specs.declared.places.Step.TheVariants.{Over, Pay, Fork, Wait}
-use Rattle.agreement.specs.declared.places.Act.{Act}
-use Rattle.agreement.specs.declared.places.Act.TheVariants.{Deposit, Choice}
+use Rattle.agreement.specs.declared.act.Act.{Act}
+use Rattle.agreement.specs.declared.act.Act.TheVariants.{Deposit, Choice}
 
 -- the place as a value
 abbrev pub spot : Place → Spot
@@ -69,12 +69,12 @@ abbrev pub shown_if : Option Step → Look
 shown_if opt.None = ends []
 shown_if (opt.Some r) = shown r
 
-abbrev pub shown_act : Act → bytes.Act
+abbrev pub shown_act : Act Place → bytes.Act
 shown_act (Deposit party account amount rest) = puts party account (amounts.meaning amount) rest.bytes.now
 shown_act (Choice party slot low high rest) = sets party slot low high rest.bytes.now
 
 -- the next act; where there is none, r is behind the acts
-abbrev pub shown_next : List ℕ → Option Act → bytes.Act
+abbrev pub shown_next : List ℕ → Option (Act Place) → bytes.Act
 shown_next r opt.None = no_more r
 shown_next r (opt.Some act) = shown_act act
 
@@ -126,11 +126,11 @@ Steps s (Wait day acts) =
     (behind (deeper s (awaited (due acts)).rest))
 
 -- the same of an act that stands at s
-abbrev pub ActParts : (Spot → Spot → Type 0) → Spot → Act → Type 0
+abbrev pub ActParts : (Spot → Spot → Type 0) → Spot → Act Place → Type 0
 ActParts R s (Deposit party account amount rest) = R s (spot rest)
 ActParts R s (Choice party slot low high rest) = R s (spot rest)
 
-abbrev pub ActRanges : Spot → Act → Type 0
+abbrev pub ActRanges : Spot → Act Place → Type 0
 ActRanges s (Deposit party account amount rest) = (party < s.parties) × (account < s.parties)
 ActRanges s (Choice party slot low high rest) = (party < s.parties) × (slot < s.slots)
 
@@ -143,7 +143,7 @@ pub record Mean (d : Due) (a : value.Acts) (bs : List ℕ) : Type 0 where
 abbrev pub Continues : Due → Spot → (value.Agreement → value.Acts → value.Acts) → Type 0
 Continues d k first = Mean d (first (meaning k) (awaited (fewer d (behind k))).what) (awaited (fewer d (behind k))).rest
 
-abbrev pub ActSteps : Due → Option Act → Type 0
+abbrev pub ActSteps : Due → Option (Act Place) → Type 0
 ActSteps d opt.None = Mean d value.none (leftover d)
 ActSteps d (opt.Some (Deposit party account amount rest)) = Continues d (spot rest) (value.deposit party account (amounts.meaning amount))
 ActSteps d (opt.Some (Choice party slot low high rest)) = Continues d (spot rest) (value.choose party slot low high)

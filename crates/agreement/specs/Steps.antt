@@ -1,15 +1,13 @@
 -- How a step of reading goes with the walk that records all checks. Assumes nothing: these are definitions.
 use Rattle.std.specs.Prelude.{◌≡◌, ℕ, ◌-◌, Bool, false, cond, List, [], ◌∷◌, Some, None, Ok, Err, Option, Result, nat_le}
 use Rattle.std.specs.Borrow.{Bor}
-use Rattle.agreement.specs.Checks.{Key, Walk, among, act, acts, walk}
+use Rattle.agreement.specs.Checks.{Key, among, act, walk}
 use Rattle.agreement.specs.Pairs.{marked}
 use Rattle.agreement.specs.declared.Agreement.{Agreement}
 use Rattle.agreement.specs.declared.Fault.TheVariants.{Surplus}
 use Rattle.agreement.specs.declared.Refusal.{Refusal}
 use Rattle.agreement.specs.declared.Wrong.{Wrong}
 use Rattle.agreement.specs.declared.pairs.Pairs.{Pairs}
-use Rattle.agreement.specs.declared.reading.Head.{Head}
-use Rattle.agreement.specs.declared.reading.Head.TheVariants.{Over, Pay, Fork, Wait}
 use Rattle.agreement.specs.declared.seen.Seen.{Seen}
 use Rattle.agreement.specs.declared.way.Way.{Way}
 
@@ -22,13 +20,6 @@ first (w ∷ ws) = Some w
 abbrev pub Goes : {X : Type 0} → Result X Wrong → List Wrong → (X → List Wrong) → Type 0
 Goes (Ok x) ws k = ws ≡ k x
 Goes (Err w) ws k = first ws ≡ Some w
-
--- what the walk does behind the head of a thing
-abbrev pub onward : ℕ → ℕ → Walk → List Bool → Head → ℕ → List ℕ → (ℕ → List ℕ → List Wrong) → List Wrong
-onward p q next us Over t r k = k t r
-onward p q next us Pay t r k = next us t r k
-onward p q next us Fork t r k = next us t r (λ t₁ s. next us t₁ s k)
-onward p q next us (Wait m) t r k = acts p q next us m [] t r (λ t₁ s. next us t₁ s k)
 
 -- the third byte of an act completes its key
 abbrev pub alike : Pairs → List ℕ → Bool

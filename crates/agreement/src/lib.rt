@@ -1,6 +1,7 @@
 // Agreements as bytes.
 #![tactic(auto)]
 
+mod act;
 mod display;
 mod header;
 mod kinds;
@@ -12,9 +13,10 @@ mod seen;
 mod steps;
 mod way;
 
+pub use act::Act;
 use header::Header;
 pub use kinds::{ActKind, ThingKind, UnknownKind};
-pub use places::{Act, Acts, Place, Rest, Step};
+pub use places::{Acts, Place, Rest, Step};
 pub use reading::read;
 
 // How deep things may be nested.

@@ -8,6 +8,7 @@ ghost use Rattle.agreement.specs.Places.{due, fewer, awaited, next_act, leftover
 
 mod heads;
 
+use crate::act::Act;
 use crate::header::Header;
 use crate::kinds::{ActKind, ThingKind};
 use crate::numbers::read_byte;
@@ -55,24 +56,6 @@ pub enum Step<'a> {
     Wait {
         day: u16,
         acts: Acts<'a>,
-    },
-}
-
-// An act, and the place of what follows it.
-#[derive(Clone, Copy)]
-pub enum Act<'a> {
-    Deposit {
-        party: u8,
-        account: u8,
-        amount: Amount,
-        rest: Place<'a>,
-    },
-    Choice {
-        party: u8,
-        slot: u8,
-        low: u32,
-        high: u32,
-        rest: Place<'a>,
     },
 }
 
@@ -151,7 +134,7 @@ impl<'a> Place<'a> {
     }
 
     // An act, if it can be read.
-    fn act(self) -> Option<Act<'a>>
+    fn act(self) -> Option<Act<Place<'a>>>
         ensures is { shown_next [] result ≡ look_act self.entry.header.parties self.entry.header.slots 1 self.entry.bytes.now }
         ensures parts { Given result (ActParts Beside (spot self.entry)) }
         ensures ranges { Given result (ActRanges (spot self.entry)) }
@@ -205,7 +188,7 @@ impl<'a> Acts<'a> {
 
     // The next act. What can't be read is none.
     #[tactic(auto, using(crate::proofs::Peeks::acts_mean))]
-    pub fn peek(self) -> Option<Act<'a>>
+    pub fn peek(self) -> Option<Act<Place<'a>>>
         ensures is { shown_next (leftover (due self.entry)) result ≡ next_act (due self.entry) }
         ensures means { ActSteps (due self.entry) result }
         ensures parts { Given result (ActParts Beside (due self.entry).at) }

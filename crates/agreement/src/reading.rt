@@ -1,8 +1,9 @@
 // Reading an agreement: a thing and a waiting's acts are read by two functions that call each other.
 ghost use Rattle.std.specs.Prelude.{◌≡◌, ℕ, ◌+◌, ◌-◌, ◌<◌, ◌≤◌, Bool, List, [], length, IfOk, OnOk};
-ghost use Rattle.agreement.specs.Checks.{Key, acts, thing, walker};
+ghost use Rattle.agreement.specs.Checks.{Key, acts, follow, thing, walker};
+ghost use Rattle.agreement.specs.Kinds.{thing_code};
 ghost use Rattle.agreement.specs.Reading.{First, Taking, answered, reading};
-ghost use Rattle.agreement.specs.Steps.{Goes, Keeps, ActsOn, Whole, counted, onward};
+ghost use Rattle.agreement.specs.Steps.{Goes, Keeps, ActsOn, Whole, counted};
 ghost use Rattle.agreement.specs.declared.Wrong.{Wrong as Failed};
 
 use crate::header::{Header, MOST_PARTIES, MOST_SLOTS};
@@ -49,18 +50,9 @@ fn read_act<'a>(
     }
 }
 
-// What one of the four things is; of a waiting, the number of its acts.
-#[derive(Clone, Copy)]
-pub(crate) enum Head {
-    Over,
-    Pay,
-    Fork,
-    Wait { count: u8 },
-}
-
-// What a thing has before its parts. `things` is how many came before it.
-fn read_head(bytes: &[u8], header: Header, depth: u8, things: u16) -> Result<(Head, &[u8]), Wrong>
-    ensures goes { (us : List Bool) (n : ℕ) → length bytes.now ≤ n → (k : ℕ → List ℕ → List Failed) → Goes result (thing header.parties header.slots us depth things bytes.now n k) (λ x. onward header.parties header.slots (walker header.parties header.slots (depth + 1) (n - 1)) us x.0 (things + 1) x.1.now k) }
+// The kind of a thing. `things` is how many came before it.
+fn read_kind(bytes: &[u8], depth: u8, things: u16) -> Result<(ThingKind, &[u8]), Wrong>
+    ensures goes { (p q : ℕ) (us : List Bool) (n : ℕ) → length bytes.now ≤ n → (k : ℕ → List ℕ → List Failed) → Goes result (thing p q us depth things bytes.now n k) (λ x. follow p q (walker p q (depth + 1) (n - 1)) us (thing_code x.0) (things + 1) x.1.now k) }
     ensures shorter { IfOk result (λ x. length x.1.now < length bytes.now) }
     ensures within { OnOk result ((depth ≤ 64) × (things < 512)) }
 {
@@ -73,21 +65,7 @@ fn read_head(bytes: &[u8], header: Header, depth: u8, things: u16) -> Result<(He
     if depth > DEEPEST || things >= MOST_THINGS {
         return Err(Fault::TooLarge.with(bytes.len()));
     }
-    match kind {
-        ThingKind::Over => Ok((Head::Over, rest)),
-        ThingKind::Pay => {
-            let (_, _, rest) = read_transfer(rest, header)?;
-            Ok((Head::Pay, rest))
-        }
-        ThingKind::Fork => {
-            let rest = read_fork(rest, header)?;
-            Ok((Head::Fork, rest))
-        }
-        ThingKind::Wait => {
-            let (count, rest) = read_waiting(rest)?;
-            Ok((Head::Wait { count }, rest))
-        }
-    }
+    Ok((kind, rest))
 }
 
 // How far reading has come: the bytes still to be read, and how many things there were.
@@ -105,15 +83,27 @@ fn read_thing(ahead: &mut Ahead<'_>, way: &Way, mut depth: u8) -> Result<(), Wro
     ensures shorter { OnOk result (length ahead.new.rest.now < length ahead.old.rest.now) }
 {
     loop {
-        let (head, rest) = read_head(ahead.rest, way.header, depth, ahead.things)?;
-        ahead.rest = rest;
+        let (kind, rest) = read_kind(ahead.rest, depth, ahead.things)?;
         ahead.things += 1;
         depth += 1;
-        match head {
-            Head::Over => return Ok(()),
-            Head::Pay => {}
-            Head::Fork => read_thing(ahead, way, depth)?,
-            Head::Wait { count } => read_acts(ahead, way, depth, count)?,
+        match kind {
+            ThingKind::Over => {
+                ahead.rest = rest;
+                return Ok(());
+            }
+            ThingKind::Pay => {
+                let (_, _, rest) = read_transfer(rest, way.header)?;
+                ahead.rest = rest;
+            }
+            ThingKind::Fork => {
+                ahead.rest = read_fork(rest, way.header)?;
+                read_thing(ahead, way, depth)?;
+            }
+            ThingKind::Wait => {
+                let (count, rest) = read_waiting(rest)?;
+                ahead.rest = rest;
+                read_acts(ahead, way, depth, count)?;
+            }
         }
     }
 }

@@ -112,17 +112,18 @@ pub(crate) fn read_rates(bytes: &[u8], header: Header) -> Result<&[u8], Wrong>
     ensures goes { (k : List ℕ → List Failed) → Goes result (checks.rates header.slots bytes.now k) (λ x. k x.now) }
     ensures shorter { IfOk result (λ x. length x.now ≤ length bytes.now) }
 {
+    let slots = usize::from(header.slots);
     let (rates, _) = bytes.as_chunks();
-    let there = rates.len().min(usize::from(header.slots));
+    let there = rates.len().min(slots);
     for (i, rate) in rates[..there].iter().enumerate() {
         if u16::from_le_bytes(*rate) > MOST_PER_UNIT {
             return Err(Fault::Cents.with(bytes.len() - 2 * i));
         }
     }
-    if there < usize::from(header.slots) {
+    if there < slots {
         return Err(Fault::Cut.with(0));
     }
-    Ok(&bytes[2 * there..])
+    Ok(&bytes[2 * slots..])
 }
 
 pub(crate) fn read_amount(bytes: &[u8], header: Header) -> Result<&[u8], Wrong>

@@ -9,7 +9,8 @@ use Rattle.agreement.specs.Bytes.{two, four}
 use Rattle.agreement.specs.Writing.{rates, amount, count, writing, writing_acts}
 use Rattle.agreement.proofs.Sizes.{length_rates}
 use Rattle.drafts.specs.Size.{size, size_acts}
-use Rattle.drafts.specs.declared.draft.Act.TheFolds.{the_lemmas}
+use Rattle.drafts.proofs.Parts.{drawn_out}
+use Rattle.drafts.specs.declared.draft.Thing.TheFolds.{the_lemmas}
 
 pub record Before (f : List ℕ → List ℕ) : Type 0 where
   pub before : (more : List ℕ) → f more ≡ f [] ++ more
@@ -67,8 +68,8 @@ length_acts q acts = length_before (acts_before q acts)
 
 pub ruleset lengths = (length_rates, length_writing, length_acts)
 
--- for goals on the parts of a thing or an act
-pub ruleset parts = (lengths, the_lemmas, common_steps)
+-- for goals on the parts of a thing
+pub ruleset parts = (lengths, drawn_out, the_lemmas, common_steps)
 
 rates_suc : (q : ℕ) (cs more : List ℕ) → rates (suc q) cs more ≡ rates q cs (two (get_or cs q 0) more)
 rates_suc zero [] more = refl

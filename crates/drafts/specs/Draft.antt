@@ -1,46 +1,46 @@
 -- What a draft stands for, and what writing it does to memory. Assumes nothing: these are definitions.
-use Rattle.std.specs.Prelude.{ℕ, cond, List, [], ◌∷◌, ◌++◌, length, map, take, drop, Ok, Err, Result, nat_le}
+use Rattle.std.specs.Prelude.{ℕ, cond, List, [], ◌∷◌, ◌++◌, length, take, drop, Ok, Err, Result, nat_le}
 use Rattle.amount.specs.Form as amounts
 use Rattle.agreement.specs.Agreement as value
 use Rattle.agreement.specs.Limits.{Allowed}
 use Rattle.agreement.specs.Reading.{Gives, reading}
 use Rattle.agreement.specs.Writing.{written}
+use Rattle.agreement.specs.declared.act.Act.{Act}
+use Rattle.agreement.specs.declared.act.Act.TheVariants.{Deposit, Choice}
 use Rattle.agreement.specs.declared.Fault.TheVariants.{Memory}
 use Rattle.agreement.specs.declared.Refusal.{Refusal}
-use Rattle.drafts.specs.declared.draft.Act.{Act}
-use Rattle.drafts.specs.declared.draft.Act.TheFolds.{fold-Act, fold-Thing}
-use Rattle.drafts.specs.declared.draft.Act.TheOpen.{Act-F, Thing-F}
 use Rattle.drafts.specs.declared.draft.Draft.{Draft}
 use Rattle.drafts.specs.declared.draft.Thing.{Thing}
+use Rattle.drafts.specs.declared.draft.Thing.TheFolds.{fold-Thing}
+use Rattle.drafts.specs.declared.draft.Thing.TheOpen.{Thing-F}
 
--- an act, where the agreement that follows it is known, before more acts
-abbrev pub act_layer : Act-F (value.Acts → value.Acts) value.Agreement → value.Acts → value.Acts
-act_layer (Act-F.Deposit party account amount rest) more =
-    value.deposit party account (amounts.meaning amount) rest more
-act_layer (Act-F.Choice party slot low high rest) more = value.choose party slot low high rest more
+-- an act, where f says what its rest stands for, before more acts
+abbrev pub act_by : {R : Type 0} → (R → value.Agreement) → Act R → value.Acts → value.Acts
+act_by f (Deposit party account amount rest) more = value.deposit party account (amounts.meaning amount) (f rest) more
+act_by f (Choice party slot low high rest) more = value.choose party slot low high (f rest) more
 
 -- acts one after another
-abbrev pub chained : List (value.Acts → value.Acts) → value.Acts
-chained [] = value.none
-chained (act ∷ more) = act (chained more)
+abbrev pub acts_by : {R : Type 0} → (R → value.Agreement) → List (Act R) → value.Acts
+acts_by f [] = value.none
+acts_by f (act ∷ more) = act_by f act (acts_by f more)
 
--- a thing, where what its parts stand for is known
-abbrev pub thing_layer : Thing-F (value.Acts → value.Acts) value.Agreement → value.Agreement
-thing_layer Thing-F.Over = value.over
-thing_layer (Thing-F.Pay from to amount rest) = value.pay from to (amounts.meaning amount) rest.value
-thing_layer (Thing-F.Fork slot bound below otherwise) = value.fork slot bound below.value otherwise.value
-thing_layer (Thing-F.Wait day acts rest) = value.await (chained acts.items) day rest.value
+-- a thing, where f says what its parts stand for
+abbrev pub thing_by : {R : Type 0} → (R → value.Agreement) → Thing-F R → value.Agreement
+thing_by f Thing-F.Over = value.over
+thing_by f (Thing-F.Pay from to amount rest) = value.pay from to (amounts.meaning amount) (f rest.value)
+thing_by f (Thing-F.Fork slot bound below otherwise) = value.fork slot bound (f below.value) (f otherwise.value)
+thing_by f (Thing-F.Wait day acts rest) = value.await (acts_by f acts.items) day (f rest.value)
 
 -- the agreement that a draft's thing stands for
 abbrev pub drawn : Thing → value.Agreement
-drawn = fold-Thing (value.Acts → value.Acts) value.Agreement act_layer thing_layer
+drawn = fold-Thing value.Agreement (thing_by (λ a. a))
 
 -- a draft's act, before more acts
-abbrev pub drawn_act : Act → value.Acts → value.Acts
-drawn_act = fold-Act (value.Acts → value.Acts) value.Agreement act_layer thing_layer
+abbrev pub drawn_act : Act Thing → value.Acts → value.Acts
+drawn_act = act_by drawn
 
-abbrev pub drawn_acts : List Act → value.Acts
-drawn_acts acts = chained (map drawn_act acts)
+abbrev pub drawn_acts : List (Act Thing) → value.Acts
+drawn_acts = acts_by drawn
 
 -- the bytes of a draft
 abbrev pub draft_bytes : Draft → List ℕ

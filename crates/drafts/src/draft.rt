@@ -1,4 +1,5 @@
 // Drafts: agreements before they are written as bytes.
+use agreement::Act;
 use amount::Amount;
 
 // An agreement for so many parties, over so many slots.
@@ -11,7 +12,6 @@ pub struct Draft {
 
 // What is left to do: nothing; a payment out of one party's account to a party; two ways by a slot's value; or to wait
 // until a day for one of some acts, and what follows if none came.
-#[cycle(thing)]
 #[derive(PartialEq, Eq, Debug, Drop)]
 pub enum Thing {
     Over,
@@ -29,27 +29,7 @@ pub enum Thing {
     },
     Wait {
         day: u16,
-        acts: Vec<Act>,
+        acts: Vec<Act<Thing>>,
         rest: Box<Thing>,
-    },
-}
-
-// An act that is awaited, with what follows it: a party puts an amount into an account, or sets a slot to a value from
-// one bound to another.
-#[cycle(thing)]
-#[derive(PartialEq, Eq, Debug, Drop)]
-pub enum Act {
-    Deposit {
-        party: u8,
-        account: u8,
-        amount: Amount,
-        rest: Thing,
-    },
-    Choice {
-        party: u8,
-        slot: u8,
-        low: u32,
-        high: u32,
-        rest: Thing,
     },
 }

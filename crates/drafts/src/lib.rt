@@ -4,5 +4,6 @@
 mod draft;
 mod writing;
 
-pub use draft::{Act, Draft, Thing};
+pub use agreement::Act;
+pub use draft::{Draft, Thing};
 pub use writing::write;

@@ -81,7 +81,7 @@ fn put_choice(party: u8, slot: u8, low: u32, high: u32, out: &mut [u8]) -> usize
 
 // How many acts there are, or the largest byte where there are more.
 #[tactic(auto, using(crate::proofs::Acts::count_drawn))]
-fn count(acts: &[Act]) -> u8
+fn count(acts: &[Act<Thing>]) -> u8
     ensures { result ≡ min (act_count (drawn_acts acts.now)) 255 }
 {
     u8::try_from(acts.len()).unwrap_or(u8::MAX)
@@ -118,7 +118,7 @@ fn thing_size(thing: &Thing, slots: u8) -> usize
 
 // How many bytes acts take, in the same way.
 #[cycle(size)]
-fn acts_size(acts: &[Act], slots: u8) -> usize
+fn acts_size(acts: &[Act<Thing>], slots: u8) -> usize
     ensures { result ≡ min (size_acts slots (drawn_acts acts.now)) (2 ^ 64 - 1) }
 {
     let mut size = 0usize;
@@ -130,8 +130,8 @@ fn acts_size(acts: &[Act], slots: u8) -> usize
 
 // How many bytes an act takes, in the same way.
 #[cycle(size)]
-#[tactic(auto, using(crate::proofs::Before::parts))]
-fn act_size(act: &Act, slots: u8) -> usize
+#[tactic(auto, using(crate::proofs::Before::lengths))]
+fn act_size(act: &Act<Thing>, slots: u8) -> usize
     ensures { result ≡ min (size_acts slots (drawn_act act.now none)) (2 ^ 64 - 1) }
 {
     match act {
@@ -179,7 +179,7 @@ fn put_thing(thing: &Thing, slots: u8, out: &mut [u8]) -> usize
 
 // Puts acts.
 #[cycle(put)]
-fn put_acts(acts: &[Act], slots: u8, out: &mut [u8]) -> usize
+fn put_acts(acts: &[Act<Thing>], slots: u8, out: &mut [u8]) -> usize
     requires { size_acts slots (drawn_acts acts.now) ≤ length out.old }
     ensures end { result ≡ size_acts slots (drawn_acts acts.now) }
     ensures puts { out.new ≡ writing_acts slots (drawn_acts acts.now) (drop result out.old) }
@@ -193,8 +193,8 @@ fn put_acts(acts: &[Act], slots: u8, out: &mut [u8]) -> usize
 
 // Puts an act.
 #[cycle(put)]
-#[tactic(auto, using(crate::proofs::Before::parts))]
-fn put_act(act: &Act, slots: u8, out: &mut [u8]) -> usize
+#[tactic(auto, using(crate::proofs::Before::lengths))]
+fn put_act(act: &Act<Thing>, slots: u8, out: &mut [u8]) -> usize
     requires { size_acts slots (drawn_act act.now none) ≤ length out.old }
     ensures end { result ≡ size_acts slots (drawn_act act.now none) }
     ensures puts { out.new ≡ writing_acts slots (drawn_act act.now none) (drop result out.old) }

@@ -4,8 +4,9 @@ ghost use Rattle.agreement.specs.Meaning.{ends, pays, no_more, puts, look_pay, l
 ghost use Rattle.agreement.specs.Numbers.{Given};
 ghost use Rattle.agreement.specs.Places.{spot, transferred, Beside, shown_if, Parts, Ranges, shown_next, ActParts, ActRanges};
 
+use crate::act::Act;
 use crate::numbers::{read_amount, read_below, read_byte, read_half, read_word};
-use crate::places::{Act, Acts, Place, Step};
+use crate::places::{Acts, Place, Step};
 use amount::Amount;
 
 impl<'a> Place<'a> {
@@ -61,7 +62,7 @@ impl<'a> Place<'a> {
         })
     }
 
-    pub(super) fn deposit(self) -> Option<Act<'a>>
+    pub(super) fn deposit(self) -> Option<Act<Place<'a>>>
         ensures is { shown_next [] result ≡ look_deposit self.entry.header.parties self.entry.header.slots self.entry.bytes.now }
         ensures parts { Given result (ActParts Beside (spot self.entry)) }
         ensures ranges { Given result (ActRanges (spot self.entry)) }
@@ -75,7 +76,7 @@ impl<'a> Place<'a> {
         })
     }
 
-    pub(super) fn choice(self) -> Option<Act<'a>>
+    pub(super) fn choice(self) -> Option<Act<Place<'a>>>
         ensures is { shown_next [] result ≡ look_choice self.entry.header.parties self.entry.header.slots self.entry.bytes.now }
         ensures parts { Given result (ActParts Beside (spot self.entry)) }
         ensures ranges { Given result (ActRanges (spot self.entry)) }

@@ -12,9 +12,9 @@ abbrev pub invariant-read_acts-loop : goal.invariant-read_acts-loop
 invariant-read_acts-loop l =
     ActsCome l.way.header.parties l.way.header.slots l.way.used l.depth l.count l.fn.ahead.things l.fn.ahead.rest.now l.counter l.seen l.ahead.things l.ahead.rest.now
 
-abbrev pub invariant-read_thing-loop-head : goal.invariant-read_thing-loop-head
-invariant-read_thing-loop-head l =
+abbrev pub invariant-read_thing-loop-kind : goal.invariant-read_thing-loop-kind
+invariant-read_thing-loop-kind l =
     Comes l.way.header.parties l.way.header.slots l.way.used l.initial.depth l.initial.ahead.things l.initial.ahead.rest.now l.depth l.ahead.things l.ahead.rest.now
 
-abbrev pub decreases-read_thing-loop-head : goal.decreases-read_thing-loop-head
-decreases-read_thing-loop-head l = length l.ahead.rest.now
+abbrev pub decreases-read_thing-loop-kind : goal.decreases-read_thing-loop-kind
+decreases-read_thing-loop-kind l = length l.ahead.rest.now

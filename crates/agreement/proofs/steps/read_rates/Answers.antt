@@ -15,7 +15,7 @@ loop-i-preserved c =
     let there = reads_there _ _ _ pairs.front pairs.front_len (search rules) c.loop-i.invariant _ c.loop-i-test.true (search rules) c.from_le_bytes.ensures in
     record { on = λ k. rw (there k, le-leb _ 1000 c.if-from_le_bytes-gt-MOST_PER_UNIT.false) }
 
-pub returns-then-there-from-clause-goes : goal.returns-then-there-from-clause-goes
-returns-then-there-from-clause-goes c =
+pub returns-then-there-slots-clause-goes : goal.returns-then-there-slots-clause-goes
+returns-then-there-slots-clause-goes c =
     let pairs = c.as_chunks.ensures in
     λ k. rw (reads_cut _ _ _ pairs.front pairs.front_len (search rules) c.loop-i.invariant c.loop-i.auto.i-end c.loop-i-test.false (search rules) k) (search rules)

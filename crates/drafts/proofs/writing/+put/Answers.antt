@@ -4,9 +4,10 @@ use Rattle.amount.specs.Form.{meaning}
 use Rattle.agreement.specs.Agreement.{none}
 use Rattle.agreement.specs.Writing.{writing, writing_acts}
 use Rattle.drafts.specs.Draft.{drawn, drawn_act, drawn_acts}
-use Rattle.drafts.specs.declared.draft.Act.TheFolds.{the_lemmas}
+use Rattle.drafts.specs.declared.draft.Thing.TheFolds.{the_lemmas}
 use Rattle.drafts.proofs.Acts.{writing_next, size_next, size_taken}
 use Rattle.drafts.proofs.Before.{put_behind, then, transfer_before, fork_before, wait_before, writing_before, acts_before, lengths, length_acts}
+use Rattle.drafts.proofs.Parts.{drawn_out}
 use Rattle.drafts.proofs.writing.+put.Goals as goal
 
 pub put_thing-returns-in-Pay-clause-puts : goal.put_thing-returns-in-Pay-clause-puts
@@ -21,7 +22,7 @@ put_act-returns-in-Deposit-clause-puts t c =
     let q = c.args.slots in
     put_behind (writing q (drawn c.in-Deposit.rest)) _ _
     (transfer_before q 1 c.in-Deposit.party c.in-Deposit.account (meaning c.in-Deposit.amount)) (omega (arith, lengths)) c.put_transfer-end.ensures.puts c.put_thing.ensures.puts
-    ∙ search (rules, the_lemmas)
+    ∙ search rules
 
 pub put_thing-returns-in-Fork-clause-puts : goal.put_thing-returns-in-Fork-clause-puts
 put_thing-returns-in-Fork-clause-puts t c =
@@ -41,7 +42,7 @@ put_thing-returns-in-Wait-clause-puts t c =
     put_behind (writing q (drawn c.deref-in-Wait-3.result.now)) _ _ (then head (acts_before q acts)) (omega (arith, lengths))
     (put_behind (writing_acts q acts) _ _ head (omega arith) c.put_wait-end.ensures.puts c.put_acts-end.ensures.puts)
     c.put_thing-in-Wait.ensures.puts
-    ∙ search (rules, the_lemmas)
+    ∙ search (rules, drawn_out, the_lemmas)
 
 pub put_acts-put_act-end-requires : goal.put_acts-put_act-end-requires
 put_acts-put_act-end-requires t c =

@@ -1,8 +1,18 @@
-use Rattle.std.proofs.Common.{◌≡◌, take, drop}
+use Rattle.std.proofs.Common.{◌≡◌, ◌+◌, ◌*◌, take, drop}
 use Rattle.agreement.specs.Writing.{writing_acts}
 use Rattle.drafts.specs.Draft.{drawn_acts}
 use Rattle.drafts.specs.Size.{size_acts}
 use Rattle.drafts.proofs.writing.+put.Given as goal
+
+-- an act is as deep as what follows it, and acts as the deepest of them: so the callers rank higher
+abbrev pub decreases-put_thing : goal.decreases-put_thing
+decreases-put_thing l = 3 * goal.size-put_thing l
+
+abbrev pub decreases-put_acts : goal.decreases-put_acts
+decreases-put_acts l = 3 * goal.size-put_acts l + 2
+
+abbrev pub decreases-put_act : goal.decreases-put_act
+decreases-put_act l = 3 * goal.size-put_act l + 1
 
 abbrev pub invariant-put_acts-loop-act : goal.invariant-put_acts-loop-act
 invariant-put_acts-loop-act l =
