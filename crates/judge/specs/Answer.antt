@@ -1,6 +1,7 @@
 -- What the judge answers so far, and how it is told. Assumes nothing: these are definitions.
 use Rattle.std.specs.Prelude.{ℕ, List, Ok, Err, codes, Result}
 use Rattle.agreement.specs.Agreement.{Agreement, over, pay, fork, await}
+use Rattle.agreement.specs.Fault as refusals
 use Rattle.agreement.specs.Meaning.{Spot, meaning}
 use Rattle.agreement.specs.Reading.{reading}
 use Rattle.agreement.specs.declared.Refusal.{Refusal}
@@ -25,3 +26,8 @@ answer_of bs = answer_by (reading bs)
 abbrev pub told : Finding → List ℕ
 told Clear = codes "clear"
 told NotJudged = codes "not judged yet"
+
+-- the words of each answer
+abbrev pub printed : Result Finding Refusal → List ℕ
+printed (Ok f) = told f
+printed (Err r) = refusals.told r

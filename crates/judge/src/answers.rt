@@ -2,7 +2,7 @@
 ghost use Rattle.std.specs.Prelude.{◌≡◌, Some};
 ghost use Rattle.agreement.specs.Meaning.{meaning};
 ghost use Rattle.agreement.specs.Reading.{begun};
-ghost use Rattle.judge.specs.Answer.{answer_of, judged, told};
+ghost use Rattle.judge.specs.Answer.{answer_of, judged, told, printed};
 
 use agreement::{Agreement, Refusal, Step, read};
 use std::fmt;
@@ -43,6 +43,21 @@ impl fmt::Display for Finding {
     }
 }
 
+// An answer as it is printed.
+#[derive(Clone, Copy)]
+pub struct Answer(pub Result<Finding, Refusal>);
+
+impl fmt::Display for Answer {
+    ghost output = { λ a. Some (printed a.0) };
+
+    fn fmt<W: fmt::Write>(&self, f: &mut fmt::Formatter<W>) -> fmt::Result {
+        match self.0 {
+            Ok(finding) => write!(f, "{finding}"),
+            Err(refusal) => write!(f, "{refusal}"),
+        }
+    }
+}
+
 #[cfg(test)]
 mod tests {
     use super::*;
@@ -51,11 +66,7 @@ mod tests {
     use std::test::Fail;
 
     fn says(rt: &impl Abort, heap: Global, bytes: &[u8], text: &str) -> Result<(), Fail> {
-        let answer = match answer_to(bytes) {
-            Ok(finding) => finding.to_string(heap)?,
-            Err(refusal) => refusal.to_string(heap)?,
-        };
-        assert_eq!(rt; answer.as_str(), text);
+        assert_eq!(rt; Answer(answer_to(bytes)).to_string(heap)?.as_str(), text);
         Ok(())
     }
 

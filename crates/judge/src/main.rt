@@ -3,15 +3,12 @@
 
 mod answers;
 
-use answers::answer_to;
+use answers::{Answer, answer_to};
 use std::io;
 use std::io::Read;
 
 fn main(rt: HostRuntime) -> io::Result<()> {
     let mut bytes = Vec::new(rt.alloc());
     rt.stdin().read_to_end(&mut bytes)?;
-    match answer_to(&bytes) {
-        Ok(finding) => rt.println(finding),
-        Err(refusal) => rt.println(refusal),
-    }
+    rt.println(Answer(answer_to(&bytes)))
 }
