@@ -1,8 +1,14 @@
 -- How large sums and products of signed numbers can get.
-use Rattle.std.proofs.Common.{◌≡◌, ℕ, suc, ◌*◌, ◌^◌, ◌≤◌, ℤ, pos, negsuc, ◌*ℤ◌, mul-le-mul, mul-le-mul_left, arith, w64, to_z, of_z}
+use Rattle.std.proofs.Common.{◌≡◌, ℕ, suc, ◌+◌, ◌*◌, ◌^◌, ◌≤◌, ℤ, pos, negsuc, ◌+ℤ◌, ◌-ℤ◌, ◌*ℤ◌, mul-le-mul, mul-le-mul_left, arith, w64, to_z, of_z}
 use Rattle.std.proofs.lemmas.Int.{ints}
 use Rattle.amount.specs.Form.{Within, UpTo}
 use Rattle.amount.specs.declared.Form.{Form}
+
+pub within_sum : (m n : ℕ) (a b : ℤ) → Within m a → Within n b → Within (m + n) (a +ℤ b)
+within_sum m n a b p q = record { low = omega (arith, ints); high = omega (arith, ints) }
+
+pub within_difference : (m n : ℕ) (a b : ℤ) → Within m a → Within n b → Within (m + n) (a -ℤ b)
+within_difference m n a b p q = record { low = omega (arith, ints); high = omega (arith, ints) }
 
 pub within_more : (m n : ℕ) (z : ℤ) → m ≤ n → Within m z → Within n z
 within_more m n z h w = record { low = omega (arith, ints); high = omega (arith, ints) }
