@@ -85,12 +85,14 @@ fn read_thing(ahead: &mut Ahead<'_>, way: &Way, mut depth: u8) -> Result<(), Wro
     loop {
         let (kind, rest) = read_kind(ahead.rest, depth, ahead.things)?;
         ahead.things += 1;
+        // Over is told by itself: the three kinds left are then compared, where four would be a jump through a table.
+        if kind == ThingKind::Over {
+            ahead.rest = rest;
+            return Ok(());
+        }
         depth += 1;
         match kind {
-            ThingKind::Over => {
-                ahead.rest = rest;
-                return Ok(());
-            }
+            ThingKind::Over => unreachable!(),
             ThingKind::Pay => {
                 let (_, _, rest) = read_transfer(rest, way.header)?;
                 ahead.rest = rest;
