@@ -94,3 +94,35 @@ put_behind {f} g m old {n} {mid} {new} first end is behind =
     let whole : take (length mid - n) (drop n mid) ≡ drop n mid = take_all _ (drop n mid) (omega (arith, length-drop n mid)) in
     let past : post_of n (length mid - n) mid ≡ [] = drop_all _ (drop n mid) (omega (arith, length-drop n mid)) in
     rw (front, past, append-nil new, behind, whole, rest, drop-drop m n old, first.before (g (drop (n + m) old))) refl
+
+-- a part of the whole is put, and the rest is left
+pub record Halfway (whole left : List ℕ → List ℕ) (old : List ℕ) (end : ℕ) (now : List ℕ) : Type 0 where
+  pub done : List ℕ → List ℕ
+  pub before : Before done
+  pub is : (more : List ℕ) → whole more ≡ done (left more)
+  pub sizes : end + length (left []) ≡ length (whole [])
+  pub puts : now ≡ done (drop end old)
+
+pub at_front : (whole : List ℕ → List ℕ) (old : List ℕ) → Halfway whole whole old 0 old
+at_front whole old = record {
+  done = λ more. more;
+  before = record { before = λ more. refl };
+  is = λ more. refl;
+  sizes = omega arith;
+  puts = refl;
+}
+
+-- one part more
+pub goes_on :
+    {whole here next : List ℕ → List ℕ} (left : List ℕ → List ℕ) {m n : ℕ} {old mid new : List ℕ} →
+    Halfway whole here old n mid → ((more : List ℕ) → here more ≡ next (left more)) → Before next → m ≡ length (next []) →
+    new ≡ next (drop m (take (length mid - n) (drop n mid))) →
+    Halfway whole left old (n + m) (take n mid ++ (new ++ post_of n (length mid - n) mid))
+goes_on {here} {next} left {m} {n} {old} half same first size behind =
+    let ends : n ≡ length (half.done []) = omega (arith, ap length (half.is []), length_before half.before (here [])) in record {
+      done = λ more. half.done (next more);
+      before = then half.before first;
+      is = λ more. half.is more ∙ ap half.done (same more);
+      sizes = omega (arith, ap length (same []), length_before first (left []));
+      puts = put_behind next m old half.before ends half.puts behind;
+    }

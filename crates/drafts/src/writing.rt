@@ -23,7 +23,9 @@ fn put<const N: usize>(bytes: [u8; N], out: &mut [u8]) -> usize
     N
 }
 
-// Puts an amount: its base, and its cents for each unit of each slot, 0 past the last slot that an amount has.
+// Puts an amount: its base, and its cents for each unit of each slot, 0 past the last slot that an amount has. It is
+// not inlined, so that the recursion around it takes less stack.
+#[inline(never)]
 fn put_amount(amount: &Amount, slots: u8, out: &mut [u8]) -> usize
     requires { 4 + 2 * slots ≤ length out.old }
     ensures end { result ≡ 4 + 2 * slots }
@@ -94,25 +96,38 @@ fn transfer_size(slots: u8) -> usize
     7 + 2 * usize::from(slots)
 }
 
-// How many bytes a thing takes, or the largest number where there are more: no memory is as long as that.
+// How many bytes a thing takes, or the largest number where there are more: no memory is as long as that. What follows
+// last is counted in turn, which takes no stack, and what stands before that by a call.
 #[cycle(size)]
 #[tactic(auto, using(crate::proofs::Before::parts))]
-fn thing_size(thing: &Thing, slots: u8) -> usize
+fn thing_size(mut thing: &Thing, slots: u8) -> usize
     ensures { result ≡ min (size slots (drawn thing.now)) (2 ^ 64 - 1) }
 {
-    match thing {
-        Thing::Over => 1,
-        Thing::Pay { rest, .. } => thing_size(rest, slots).saturating_add(transfer_size(slots)),
-        Thing::Fork {
-            below,
-            otherwise,
-            ..
-        } => thing_size(below, slots)
-            .saturating_add(thing_size(otherwise, slots))
-            .saturating_add(6),
-        Thing::Wait { acts, rest, .. } => acts_size(acts, slots)
-            .saturating_add(thing_size(rest, slots))
-            .saturating_add(4),
+    let mut size = 0usize;
+    loop {
+        match thing {
+            Thing::Over => return size.saturating_add(1),
+            Thing::Pay { rest, .. } => {
+                size = size.saturating_add(transfer_size(slots));
+                thing = rest;
+            }
+            Thing::Fork {
+                below,
+                otherwise,
+                ..
+            } => {
+                size = size
+                    .saturating_add(6)
+                    .saturating_add(thing_size(below, slots));
+                thing = otherwise;
+            }
+            Thing::Wait { acts, rest, .. } => {
+                size = size
+                    .saturating_add(4)
+                    .saturating_add(acts_size(acts, slots));
+                thing = rest;
+            }
+        }
     }
 }
 
@@ -140,45 +155,50 @@ fn act_size(act: &Act<Thing>, slots: u8) -> usize
     }
 }
 
-// Puts a thing.
+// Puts a thing. What follows last is put in turn, which takes no stack, and what stands before that by a call.
 #[cycle(put)]
 #[tactic(auto, using(crate::proofs::Before::parts))]
-fn put_thing(thing: &Thing, slots: u8, out: &mut [u8]) -> usize
+fn put_thing(mut thing: &Thing, slots: u8, out: &mut [u8]) -> usize
     requires { size slots (drawn thing.now) ≤ length out.old }
     ensures end { result ≡ size slots (drawn thing.now) }
     ensures puts { out.new ≡ writing slots (drawn thing.now) (drop result out.old) }
 {
-    match thing {
-        Thing::Over => put([ThingKind::Over as u8], out),
-        Thing::Pay {
-            from,
-            to,
-            amount,
-            rest,
-        } => {
-            let end = put_transfer(ThingKind::Pay as u8, *from, *to, amount, slots, out);
-            end + put_thing(rest, slots, &mut out[end..])
-        }
-        Thing::Fork {
-            slot,
-            bound,
-            below,
-            otherwise,
-        } => {
-            let mut end = put_fork(*slot, *bound, out);
-            end += put_thing(below, slots, &mut out[end..]);
-            end + put_thing(otherwise, slots, &mut out[end..])
-        }
-        Thing::Wait { day, acts, rest } => {
-            let mut end = put_wait(*day, count(acts), out);
-            end += put_acts(acts, slots, &mut out[end..]);
-            end + put_thing(rest, slots, &mut out[end..])
+    let mut end = 0;
+    loop {
+        match thing {
+            Thing::Over => return end + put([ThingKind::Over as u8], &mut out[end..]),
+            Thing::Pay {
+                from,
+                to,
+                amount,
+                rest,
+            } => {
+                let kind = ThingKind::Pay as u8;
+                end += put_transfer(kind, *from, *to, amount, slots, &mut out[end..]);
+                thing = rest;
+            }
+            Thing::Fork {
+                slot,
+                bound,
+                below,
+                otherwise,
+            } => {
+                end += put_fork(*slot, *bound, &mut out[end..]);
+                end += put_thing(below, slots, &mut out[end..]);
+                thing = otherwise;
+            }
+            Thing::Wait { day, acts, rest } => {
+                end += put_wait(*day, count(acts), &mut out[end..]);
+                end += put_acts(acts, slots, &mut out[end..]);
+                thing = rest;
+            }
         }
     }
 }
 
-// Puts acts.
+// Puts acts. It is not inlined, so that the recursion in `put_thing` takes less stack.
 #[cycle(put)]
+#[inline(never)]
 fn put_acts(acts: &[Act<Thing>], slots: u8, out: &mut [u8]) -> usize
     requires { size_acts slots (drawn_acts acts.now) ≤ length out.old }
     ensures end { result ≡ size_acts slots (drawn_acts acts.now) }

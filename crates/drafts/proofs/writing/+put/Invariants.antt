@@ -1,7 +1,9 @@
-use Rattle.std.proofs.Common.{◌≡◌, ◌+◌, ◌*◌, take, drop}
-use Rattle.agreement.specs.Writing.{writing_acts}
-use Rattle.drafts.specs.Draft.{drawn_acts}
+use Rattle.std.proofs.Common.{◌≡◌, ◌+◌, ◌*◌, ◌≤◌, take, drop}
+use Rattle.agreement.specs.Writing.{writing, writing_acts}
+use Rattle.drafts.specs.Draft.{drawn, drawn_acts}
 use Rattle.drafts.specs.Size.{size_acts}
+use Rattle.drafts.specs.declared.draft.Thing.TheViews.{size-Thing}
+use Rattle.drafts.proofs.Before.{Halfway}
 use Rattle.drafts.proofs.writing.+put.Given as goal
 
 -- an act is as deep as what follows it, and acts as the deepest of them: so the callers rank higher
@@ -18,3 +20,9 @@ abbrev pub invariant-put_acts-loop-act : goal.invariant-put_acts-loop-act
 invariant-put_acts-loop-act l =
     (l.end ≡ size_acts l.slots (drawn_acts (take l.act-index l.acts))) ×
     (l.out ≡ writing_acts l.slots (drawn_acts (take l.act-index l.acts)) (drop l.end l.initial.out))
+
+abbrev pub invariant-put_thing-loop-thing : goal.invariant-put_thing-loop-thing
+invariant-put_thing-loop-thing l = record {
+  no_deeper : size-Thing l.thing ≤ size-Thing l.fn.thing;
+  puts : Halfway (writing l.slots (drawn l.fn.thing)) (writing l.slots (drawn l.thing)) l.initial.out l.end l.out;
+}
