@@ -85,18 +85,21 @@ fn read_thing(ahead: &mut Ahead<'_>, way: &Way, mut depth: u8) -> Result<(), Wro
     loop {
         let (kind, rest) = read_kind(ahead.rest, depth, ahead.things)?;
         ahead.things += 1;
-        // Over is told by itself: the three kinds left are then compared, where four would be a jump through a table.
-        if kind == ThingKind::Over {
+        // A payment is told first and by itself: the three kinds left are then compared, where four would be a jump
+        // through a table.
+        if kind == ThingKind::Pay {
+            let (_, _, rest) = read_transfer(rest, way.header)?;
             ahead.rest = rest;
-            return Ok(());
+            depth += 1;
+            continue;
         }
         depth += 1;
         match kind {
-            ThingKind::Over => unreachable!(),
-            ThingKind::Pay => {
-                let (_, _, rest) = read_transfer(rest, way.header)?;
+            ThingKind::Over => {
                 ahead.rest = rest;
+                return Ok(());
             }
+            ThingKind::Pay => unreachable!(),
             ThingKind::Fork => {
                 ahead.rest = read_fork(rest, way.header)?;
                 read_thing(ahead, way, depth)?;
